@@ -1,0 +1,14 @@
+pub mod BufferLaws
+pub mod ByteLaws
+pub mod CountLaws
+pub mod DecodeLaws
+pub mod LeadLaws
+pub mod LossyLaws
+pub mod MaximalSubpart
+pub mod PartLaws
+pub mod ResultLaws
+pub mod ScalarLaws
+pub mod StepLaws
+pub mod TestLaws
+pub mod Utf16Laws
+pub mod Utf8Laws

@@ -1,0 +1,186 @@
+-- The loops that measure and write a repaired text.
+-- Assumes nothing.
+use mathlib.Core.Path.{_≡_, refl, _∙_, sym, ap, ap₂}
+use mathlib.Core.Bool.{Bool, true, false, cond}
+use mathlib.Core.List.{List, [], _++_, flatMap}
+use Prim.Native.Nat.{ℕ, _+_, _-_, _*_, _^_, _≤_, _<_, min}
+use native.Mathlib.Omega.{arith}
+use borrow.Author.Tests.{lt-ltb, le-ltb, lt-leb, le-leb, ltb-true, ltb-false}
+use lib.Dec.{leb, ltb}
+use lib.ListN.{length, length-append}
+use Rattle.text.specs.declared.utf8.Step.{Step}
+use Rattle.text.specs.declared.utf8.Step.the-variants.{Scalar, IllFormed, End}
+use Rattle.text.specs.declared.utf8.LossyLength.{LossyLength}
+use Rattle.text.specs.declared.utf8.LossyLength.the-variants as measure
+use Rattle.text.specs.declared.utf8.LossyReply.the-variants as lossyReply
+use Rattle.text.specs.Buffer.{put, Places}
+use Rattle.text.specs.Replies.{lossyLength, WritesLossy}
+use Rattle.text.specs.Unicode.{isScalar, utf8, utf8s, encoded}
+use Rattle.text.specs.Utf8.{stepAt, partsFrom, repaired, replacedIn, lossy}
+use Rattle.text.proofs.BufferLaws.{put-front, SoFar, Splits, begins, ends, places-on}
+use Rattle.text.proofs.PartLaws.{Advances, step-reads, step-breaks, step-end, parts-end, parts-scalar, parts-ill-formed}
+use Rattle.text.proofs.ScalarLaws.{is-scalar}
+use Rattle.text.proofs.Utf8Laws.{step-took}
+
+-- what a step writes: the scalar value w, with k replaced parts
+pub record Writes (s : List ℕ) (i next w k : ℕ) : Type 0 where
+  pub advance : Advances s i next
+  pub scalar : isScalar w ≡ true
+  pub text : utf8s (repaired (partsFrom s i)) ≡ utf8 w ++ utf8s (repaired (partsFrom s next))
+  pub count : replacedIn (partsFrom s i) ≡ k + replacedIn (partsFrom s next)
+
+module _ (s : List ℕ) (i : ℕ) {x : Step} (e : x ≡ stepAt s i) where
+  pub writes-scalar : {v next : ℕ} → x ≡ Scalar v next → Writes s i next v 0
+  unfolding repaired replacedIn flatMap
+  writes-scalar {v} {next} g =
+      let r = step-reads s i (sym e ∙ g) in
+      let p = parts-scalar s i (sym e ∙ g) in
+      record {
+        advance = r .advance;
+        scalar = is-scalar (step-took s i v next r .scalar);
+        text = rw p;
+        count = rw p (omega arith);
+      }
+
+  pub writes-replacement : {next : ℕ} → x ≡ IllFormed next → Writes s i next 0xFFFD 1
+  unfolding repaired replacedIn flatMap
+  writes-replacement {next} g =
+      let p = parts-ill-formed s i (sym e ∙ g) in
+      record { advance = step-breaks s i (sym e ∙ g) .advance; scalar = refl; text = rw p; count = rw p (omega arith) }
+
+  nothing-left : x ≡ End → partsFrom s i ≡ []
+  nothing-left g = parts-end s i (step-end s i (sym e ∙ g))
+
+pub replacement-size : length (utf8 0xFFFD) ≡ 3
+unfolding utf8
+replacement-size = refl
+
+-- ---- measuring
+
+-- the text before i has these bytes and these replaced parts
+pub record Measuring (s : List ℕ) (bytes replaced i : ℕ) : Type 0 where
+  pub bound : i ≤ length s
+  pub few : replaced ≤ i
+  pub fits : bytes < 2 ^ 64
+  pub size : bytes + length (utf8s (repaired (partsFrom s i))) ≡ length (lossy s)
+  pub count : replaced + replacedIn (partsFrom s i) ≡ replacedIn (partsFrom s 0)
+
+module _ (s : List ℕ) where
+  pub measure-start : Measuring s 0 0 0
+  measure-start = record { bound = omega arith; few = omega arith; fits = omega arith; size = omega arith; count = omega arith }
+
+  module _ {bytes replaced i : ℕ} (m : Measuring s bytes replaced i) where
+    split-size : {next w k : ℕ} → Writes s i next w k
+        → length (utf8s (repaired (partsFrom s i))) ≡ length (utf8 w) + length (utf8s (repaired (partsFrom s next)))
+    split-size {next} {w} x = ap length (x .text) ∙ length-append (utf8 w) (utf8s (repaired (partsFrom s next)))
+
+    turn : {next w k b r : ℕ} → Writes s i next w k → b ≡ bytes + length (utf8 w) → r ≡ replaced + k → k ≤ 1 → b < 2 ^ 64 → Measuring s b r next
+    turn x eb er l f =
+        let a = x .advance in
+        record { bound = a .inside; few = omega (arith, a); fits = f; size = omega (arith, split-size x); count = omega (arith, x .count) }
+
+    over : {next w k : ℕ} → Writes s i next w k → 2 ^ 64 ≤ bytes + length (utf8 w) → measure.TooLong ≡ lossyLength s
+    unfolding lossyLength
+    over x h = simp (le-ltb (length (lossy s)) (2 ^ 64) (omega (arith, split-size x)))
+
+    module _ {x : Step} (e : x ≡ stepAt s i) where
+      pub measure-scalar : {v next n : ℕ} → x ≡ Scalar v next → (n ≡ length (utf8 v)) × (n ≤ 4) → n ≤ 18446744073709551615 - bytes → Measuring s (bytes + n) replaced next
+      measure-scalar g w h = turn (writes-scalar s i e g) (omega arith) (omega arith) (omega arith) (omega arith)
+
+      pub measure-replacement : {next : ℕ} → x ≡ IllFormed next → 3 ≤ 18446744073709551615 - bytes → Measuring s (bytes + 3) (replaced + 1) next
+      measure-replacement g h = turn (writes-replacement s i e g) (omega (arith, replacement-size)) (omega arith) (omega arith) (omega arith)
+
+      pub over-scalar : {v next n : ℕ} → x ≡ Scalar v next → (n ≡ length (utf8 v)) × (n ≤ 4) → 18446744073709551615 - bytes < n → measure.TooLong ≡ lossyLength s
+      over-scalar g w h = over (writes-scalar s i e g) (omega arith)
+
+      pub over-replacement : {next : ℕ} → x ≡ IllFormed next → 18446744073709551615 - bytes < 3 → measure.TooLong ≡ lossyLength s
+      over-replacement g h = over (writes-replacement s i e g) (omega (arith, replacement-size))
+
+      pub measure-last : x ≡ End → measure.Length bytes replaced ≡ lossyLength s
+      unfolding lossyLength repaired replacedIn flatMap
+      measure-last g =
+          let p = nothing-left s i e g in
+          let a : bytes ≡ length (lossy s) = omega (arith, rw p at (m .size)) in
+          let r : replaced ≡ replacedIn (partsFrom s 0) = omega (arith, rw p at (m .count)) in
+          let f = m .fits in
+          simp (lt-ltb (length (lossy s)) (2 ^ 64) (omega arith)) (ap₂ (λ (b n : ℕ). measure.Length b n) a r)
+
+pub ruleset measuring = (measure-scalar, measure-replacement, over-scalar, over-replacement, measure-last)
+
+-- ---- writing
+
+-- the text before i stands at the start of d, o bytes of it
+pub record Writing (s d₀ d : List ℕ) (i o : ℕ) : Type 0 where
+  pub bound : i ≤ length s
+  pub room : length (lossy s) ≤ length d₀
+  pub so-far : SoFar (lossy s) (utf8s (repaired (partsFrom s i))) d₀ d o
+
+module _ (s : List ℕ) where
+  pub write-start : (d₀ : List ℕ) → length (lossy s) ≤ length d₀ → Writing s d₀ d₀ 0 0
+  write-start d₀ h = record { bound = omega arith; room = h; so-far = begins (lossy s) d₀ }
+
+  module _ {d₀ d : List ℕ} {i o : ℕ} (t : Writing s d₀ d i o) where
+    write-on : {next w k : ℕ} → Writes s i next w k → {e : ℕ} {d' : List ℕ} → Places d o (encoded utf8 w) e d' → Writing s d₀ d' next e
+    write-on {next} {w} x {e} {d'} p =
+        let q : Places d o (utf8 w) e d' = simp (x .scalar) at p in
+        let l : Splits (utf8s (repaired (partsFrom s i))) (utf8 w) (utf8s (repaired (partsFrom s next))) = record { is = x .text } in
+        record { bound = x .advance .inside; room = t .room; so-far = places-on (t .room) l (t .so-far) q }
+
+    module _ {x : Step} (e : x ≡ stepAt s i) where
+      pub write-scalar : {v next r : ℕ} {d' : List ℕ} → x ≡ Scalar v next → Places d o (encoded utf8 v) r d' → Writing s d₀ d' next r
+      write-scalar g p = write-on (writes-scalar s i e g) p
+
+      pub write-replacement : {next r : ℕ} {d' : List ℕ} → x ≡ IllFormed next → Places d o (encoded utf8 0xFFFD) r d' → Writing s d₀ d' next r
+      write-replacement g p = write-on (writes-replacement s i e g) p
+
+      pub write-last : x ≡ End → d ≡ put d₀ 0 (lossy s)
+      unfolding repaired flatMap
+      write-last g = ends (lossy s) d₀ d o (rw (nothing-left s i e g) at (t .so-far)) ∙ sym (put-front d₀ (lossy s))
+
+pub ruleset writing = (write-start, write-scalar, write-replacement, write-last)
+
+-- ---- the public call
+
+module _ (s out : List ℕ) {x : LossyLength} (is : x ≡ lossyLength s) where
+  length-is : {n r : ℕ} → x ≡ measure.Length n r → (n ≡ length (lossy s)) × (r ≡ replacedIn (partsFrom s 0)) × (n < 2 ^ 64)
+  unfolding lossyLength
+  length-is {n} {r} e = by (ltb (length (lossy s)) (2 ^ 64)) refl (sym is ∙ e)
+    where
+      by : (t : Bool) → ltb (length (lossy s)) (2 ^ 64) ≡ t → cond t (measure.Length (length (lossy s)) (replacedIn (partsFrom s 0))) measure.TooLong ≡ measure.Length n r
+          → (n ≡ length (lossy s)) × (r ≡ replacedIn (partsFrom s 0)) × (n < 2 ^ 64)
+      by true f k =
+          let a : n ≡ length (lossy s) = cc in
+          (a, cc, omega (arith, a, ltb-true (length (lossy s)) (2 ^ 64) f))
+      by false f k = let z : _≡_ {A = ℕ} 0 1 = cc in absurd (omega arith)
+
+  too-long-is : x ≡ measure.TooLong → 2 ^ 64 ≤ length (lossy s)
+  unfolding lossyLength
+  too-long-is e = by (ltb (length (lossy s)) (2 ^ 64)) refl (sym is ∙ e)
+    where
+      by : (t : Bool) → ltb (length (lossy s)) (2 ^ 64) ≡ t → cond t (measure.Length (length (lossy s)) (replacedIn (partsFrom s 0))) measure.TooLong ≡ measure.TooLong
+          → 2 ^ 64 ≤ length (lossy s)
+      by true f k = let z : _≡_ {A = ℕ} 0 1 = cc in absurd (omega arith)
+      by false f k = ltb-false (length (lossy s)) (2 ^ 64) f
+
+  pub lossy-room : {n r : ℕ} → x ≡ measure.Length n r → n ≤ length out → length (lossy s) ≤ length out
+  lossy-room e h = omega (arith, length-is e)
+
+  pub lossy-short : {n r : ℕ} → x ≡ measure.Length n r → length out < n → WritesLossy s out (lossyReply.TooShort n) out
+  lossy-short {n} e h =
+      let l = length-is e in
+      let t : leb (length (lossy s)) (length out) ≡ false = lt-leb (length (lossy s)) (length out) (omega (arith, l)) in
+      let p : n ≡ min (length (lossy s)) (2 ^ 64 - 1) = omega (arith, l) in
+      record { reply = simp t (ap (λ (k : ℕ). lossyReply.TooShort k) p); buffer = simp t }
+
+  pub lossy-written : {n r : ℕ} {out' : List ℕ} → x ≡ measure.Length n r → n ≤ length out → out' ≡ put out 0 (lossy s) → WritesLossy s out (lossyReply.Written n r) out'
+  lossy-written e h w =
+      let l = length-is e in
+      let t : leb (length (lossy s)) (length out) ≡ true = le-leb (length (lossy s)) (length out) (omega (arith, l)) in
+      record { reply = simp t (ap₂ (λ (b k : ℕ). lossyReply.Written b k) (l .0) (l .1)); buffer = simp t (w ∙ put-front out (lossy s)) }
+
+  pub lossy-past : length out < 2 ^ 64 - 1 → x ≡ measure.TooLong → WritesLossy s out (lossyReply.TooShort 18446744073709551615) out
+  lossy-past h e =
+      let l = too-long-is e in
+      let t : leb (length (lossy s)) (length out) ≡ false = lt-leb (length (lossy s)) (length out) (omega arith) in
+      let p : 18446744073709551615 ≡ min (length (lossy s)) (2 ^ 64 - 1) = omega arith in
+      record { reply = simp t (ap (λ (k : ℕ). lossyReply.TooShort k) p); buffer = simp t }

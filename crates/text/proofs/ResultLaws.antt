@@ -1,0 +1,96 @@
+-- The laws of results. Assumes nothing.
+use Prim.Native.Nat.{ℕ, zero, suc, _+_, _-_, _≤_, _<_}
+use mathlib.Core.Path.{_≡_, refl, sym, ap, _∙_}
+use mathlib.Core.Bool.{Bool, true, false}
+use native.Mathlib.Numerals.{add-one}
+use native.Mathlib.Omega.{arith}
+use Rattle.text.specs.Result.{Result, ok, error, check, checkEach, checkCount, foldCount, foldRange, _>>_, _>>=_}
+use Rattle.text.specs.declared.error.Failure.{Failure}
+
+-- what a callee's enum reply-is: f reads the reply as a result, and the reply is y
+pub reply-is : {X A : Type 0} (f : X → Result A) {x y : X} {m : Result A} → f x ≡ m → x ≡ y → m ≡ f y
+reply-is f e g = sym e ∙ ap f g
+
+-- checks that all hold
+pub check-passed : (q : ℕ) (t : Bool) (p : ℕ) {A : Type 0} (m : Result A) {a : A} → (check q t p >> m) ≡ ok a → (t ≡ true) × (m ≡ ok a)
+check-passed q true p m e = (refl, e)
+check-passed q false p m {a} e =
+    let z : _≡_ {A = ℕ} 0 1 = cc in
+    absurd (omega arith)
+
+pub seq-passed : {A B : Type 0} (m : Result A) (k : Result B) {b : B} → (m >> k) ≡ ok b → (a : A) × ((m ≡ ok a) × (k ≡ ok b))
+seq-passed (ok a) k e = (a, (refl, e))
+seq-passed (error n) k {b} e =
+    let z : _≡_ {A = ℕ} 0 1 = cc in
+    absurd (omega arith)
+
+pub bind-passed : {A B : Type 0} (m : Result A) (f : A → Result B) {b : B} → (m >>= f) ≡ ok b → (a : A) × ((m ≡ ok a) × (f a ≡ ok b))
+bind-passed (ok a) f e = (a, (refl, e))
+bind-passed (error n) f {b} e =
+    let z : _≡_ {A = ℕ} 0 1 = cc in
+    absurd (omega arith)
+
+pub checkCount-passed : (q : ℕ) (holds : ℕ → Bool) (i n : ℕ) {u : Unit {0}} → checkCount q holds i n ≡ ok u → (k : ℕ) → i ≤ k → k < i + n → holds k ≡ true
+unfolding checkCount
+checkCount-passed q holds i zero e k l h = absurd (omega arith)
+checkCount-passed q holds i (suc n) {u} e k l h =
+    let p = check-passed q (holds i) i (checkCount q holds (suc i) n) e in
+    at (p .0) (λ m. checkCount-passed q holds (suc i) n (p .1) k m (omega arith)) (k - i) refl
+  where
+    at : holds i ≡ true → (suc i ≤ k → holds k ≡ true) → (d : ℕ) → k - i ≡ d → holds k ≡ true
+    at y go zero z =
+        let s : k ≡ i = omega arith in
+        rw s y
+    at y go (suc d) z = go (omega arith)
+
+-- a check put to a range, by the first index of the range
+module _ (q : ℕ) (holds : ℕ → Bool) (i e : ℕ) where
+  pub checkEach-done : e ≤ i → checkEach q holds i e ≡ ok tt
+  unfolding checkEach checkCount
+  checkEach-done h =
+      let k : e - i ≡ zero = omega arith in
+      rw k
+
+  pub checkEach-yes : i < e → holds i ≡ true → checkEach q holds i e ≡ checkEach q holds (i + 1) e
+  unfolding checkEach checkCount
+  checkEach-yes h y =
+      let k : e - i ≡ suc (e - suc i) = omega arith in
+      rw (add-one, k, y)
+
+  pub checkEach-no : i < e → holds i ≡ false → checkEach q holds i e ≡ error (record { number = q; place = i })
+  unfolding checkEach checkCount
+  checkEach-no h y =
+      let k : e - i ≡ suc (e - suc i) = omega arith in
+      rw (k, y)
+
+  pub checkEach-passed : {u : Unit {0}} → checkEach q holds i e ≡ ok u → (k : ℕ) → i ≤ k → k < e → holds k ≡ true
+  unfolding checkEach
+  checkEach-passed p k l h = checkCount-passed q holds i (e - i) p k l (omega arith)
+
+-- foldCount that carry a value, by the first index of the range
+module _ {S : Type 0} (f : ℕ → S → Result S) (i e : ℕ) (s : S) where
+  pub foldRange-done : e ≤ i → foldRange f i e s ≡ ok s
+  unfolding foldRange foldCount
+  foldRange-done h =
+      let k : e - i ≡ zero = omega arith in
+      rw k
+
+  pub foldRange-yes : {s' : S} → i < e → f i s ≡ ok s' → foldRange f i e s ≡ foldRange f (i + 1) e s'
+  unfolding foldRange foldCount
+  foldRange-yes h y =
+      let k : e - i ≡ suc (e - suc i) = omega arith in
+      rw (add-one, k, y)
+
+  pub foldRange-no : {n : Failure} → i < e → f i s ≡ error n → foldRange f i e s ≡ error n
+  unfolding foldRange foldCount
+  foldRange-no h y =
+      let k : e - i ≡ suc (e - suc i) = omega arith in
+      rw (k, y)
+
+  -- a fold that is ok: its first step was
+  pub foldRange-passed : {u : S} → i < e → foldRange f i e s ≡ ok u → (s' : S) × ((f i s ≡ ok s') × (foldRange f (i + 1) e s' ≡ ok u))
+  unfolding foldRange foldCount
+  foldRange-passed {u} h y =
+      let k : e - i ≡ suc (e - suc i) = omega arith in
+      let y' : (f i s >>= foldCount f (suc i) (e - suc i)) ≡ ok u = rw k at y in
+      rw add-one (bind-passed (f i s) (foldCount f (suc i) (e - suc i)) y')

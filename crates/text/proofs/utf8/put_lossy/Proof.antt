@@ -1,0 +1,18 @@
+-- `text::utf8::put_lossy` meets its contract: the laws of its loop answer each need.
+-- Assumes nothing.
+use Rattle.text.proofs.PartLaws.{left, less}
+use borrow.Author.Needs.{needs}
+use Rattle.text.proofs.LossyLaws.{Writing, writing}
+use Rattle.text.proofs.utf8.put_lossy.Statement.{statement}
+use Rattle.text.proofs.utf8.put_lossy.Tie as tie
+
+abbrev Inv-loop : tie.InvT-loop
+Inv-loop s out₀ i₀ o₀ out i o = Writing s out₀ out i o
+
+abbrev μ-loop : tie.MeasureT-loop
+μ-loop s out₀ i₀ o₀ out i o = left s i
+
+pub put-lossy-spec : {M : Type 1} → statement M
+put-lossy-spec =
+    tie.close
+    (tie.spec Inv-loop μ-loop (λ c. search (writing, needs)) (λ c κs. search (writing, needs)) (λ c. search (writing, needs)) (λ c κs. search (writing, needs)) (λ c. search less) (λ c. search (writing, needs)) (λ c. search (writing, needs)) (λ c κs. search (writing, needs)) (λ c. search less) (λ c. search (writing, needs)) (λ c. search (writing, needs)) (λ c. search (writing, needs)) (λ c. search (writing, needs)))

@@ -1,0 +1,24 @@
+-- A list written into another from an index on.
+-- Assumes nothing.
+use Prim.Native.Nat.{ℕ, _+_}
+use mathlib.Core.Path.{_≡_}
+use mathlib.Core.Bool.{cond}
+use mathlib.Core.List.{List, _++_}
+use lib.Dec.{leb}
+use lib.ListN.{length, take, drop}
+
+-- d with w from index i on
+unfoldable pub put : List ℕ → ℕ → List ℕ → List ℕ
+put d i w = take i d ++ w ++ drop (i + length w) d
+
+-- d with w from index i on where w fits, and else d; and the index after what was written
+unfoldable pub placed : List ℕ → ℕ → List ℕ → List ℕ
+placed d i w = cond (leb (i + length w) (length d)) (put d i w) d
+
+unfoldable pub placedEnd : List ℕ → ℕ → List ℕ → ℕ
+placedEnd d i w = cond (leb (i + length w) (length d)) (i + length w) i
+
+-- what a function that writes w at i where it fits returns and leaves
+pub record Places (d : List ℕ) (i : ℕ) (w : List ℕ) (next : ℕ) (d' : List ℕ) : Type 0 where
+  pub end : next ≡ placedEnd d i w
+  pub buffer : d' ≡ placed d i w

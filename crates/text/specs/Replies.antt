@@ -1,0 +1,75 @@
+-- What the replies of the code say, and what the calls promise of replies and output buffers.
+-- Assumes nothing.
+use Prim.Native.Nat.{ℕ, _^_}
+use mathlib.Core.Path.{_≡_}
+use mathlib.Core.Bool.{cond}
+use mathlib.Core.List.{List, _++_}
+use mathlib.Core.Option.{Option, some, none, Option·map}
+use lib.Dec.{leb, ltb}
+use lib.ListN.{length, getD, drop}
+use Rattle.text.specs.Errors.{failureOf}
+use Rattle.text.specs.Result.{Result, ok, error, mapResult, needPlace, overwritten}
+use Rattle.text.specs.Utf8.{partsFrom, firstIllFormed, replacedIn, unitsOf, lossy}
+use Rattle.text.specs.Utf16.{decodeUtf16}
+use Rattle.text.specs.declared.utf8.Validity.{Validity}
+use Rattle.text.specs.declared.utf8.Validity.the-variants as validity
+use Rattle.text.specs.declared.utf8.UnitCount.{UnitCount}
+use Rattle.text.specs.declared.utf8.UnitCount.the-variants as count
+use Rattle.text.specs.declared.utf8.LossyLength.{LossyLength}
+use Rattle.text.specs.declared.utf8.LossyLength.the-variants as measure
+use Rattle.text.specs.declared.utf8.LossyReply.{LossyReply}
+use Rattle.text.specs.declared.utf8.LossyReply.the-variants as lossyReply
+use Rattle.text.specs.declared.utf8.Units.{Units}
+use Rattle.text.specs.declared.utf16.TextLength.{TextLength}
+use Rattle.text.specs.declared.utf16.TextLength.the-variants as textLength
+use Rattle.text.specs.declared.utf16.TextReply.{TextReply}
+use Rattle.text.specs.declared.utf16.TextReply.the-variants as textReply
+
+-- at most two code units by value; what is not used is 0
+abbrev pub unitsFrom : List ℕ → Units
+unitsFrom us = record { count = length us; first = getD us 0 0; second = getD us 1 0 }
+
+-- where a text is ill-formed
+abbrev pub validityPlace : Validity → Option ℕ
+validityPlace validity.WellFormed = none
+validityPlace (validity.IllFormed i) = some i
+
+abbrev pub countUnits : UnitCount → Option ℕ
+countUnits (count.Units n) = some n
+countUnits (count.IllFormed i) = none
+
+abbrev pub countPlace : UnitCount → Option ℕ
+countPlace (count.Units n) = none
+countPlace (count.IllFormed i) = some i
+
+-- the number of code units of a well-formed text, or where the text is ill-formed
+pub record CountsUnits (s : List ℕ) (r : UnitCount) : Type 0 where
+  pub units : countUnits r ≡ Option·map length (unitsOf s)
+  pub place : countPlace r ≡ firstIllFormed (partsFrom s 0)
+
+-- the bytes of the repaired text and the number of replaced parts, or that the bytes do not fit 64 bits
+unfoldable pub lossyLength : List ℕ → LossyLength
+lossyLength s =
+    cond (ltb (length (lossy s)) (2 ^ 64)) (measure.Length (length (lossy s)) (replacedIn (partsFrom s 0))) measure.TooLong
+
+-- the repaired text over the front of a buffer that is long enough for it; a shorter buffer is kept, and its need told as 34 tells it
+pub record WritesLossy (s out : List ℕ) (r : LossyReply) (out' : List ℕ) : Type 0 where
+  pub reply :
+      r
+      ≡ cond (leb (length (lossy s)) (length out)) (lossyReply.Written (length (lossy s)) (replacedIn (partsFrom s 0)))
+      (lossyReply.TooShort (needPlace (length (lossy s))))
+  pub buffer : out' ≡ cond (leb (length (lossy s)) (length out)) (lossy s ++ drop (length (lossy s)) out) out
+
+-- the length of the text of code units, where there is one
+abbrev pub lengthOf : TextLength → Option ℕ
+lengthOf (textLength.Bytes n) = some n
+lengthOf textLength.Unpaired = none
+
+-- a text's length in bytes, or the refusal
+abbrev pub textReplyOf : TextReply → Result ℕ
+textReplyOf (textReply.Text n) = ok n
+textReplyOf (textReply.Error e) = error (failureOf e)
+
+pub record DecodesUtf16 (us text : List ℕ) (r : TextReply) (text' : List ℕ) : Type 0 where
+  pub reply : textReplyOf r ≡ mapResult length (decodeUtf16 us (length text))
+  pub buffer : text' ≡ overwritten (λ t. t) (decodeUtf16 us (length text)) text

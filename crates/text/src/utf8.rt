@@ -1,0 +1,377 @@
+// UTF-8 as the Unicode Standard, chapter 3, has it: one decoding step, well-formedness, and the repaired text of ill-formed bytes.
+ghost use mathlib.Core.Path.{_≡_};
+ghost use Prim.Native.Nat.{_+_, _≤_, _<_};
+ghost use lib.ListN.{length};
+ghost use Rattle.text.specs.Buffer.{put, Places};
+ghost use Rattle.text.specs.Replies.{unitsFrom, validityPlace, CountsUnits, lossyLength, WritesLossy};
+ghost use Rattle.text.specs.Unicode.{isScalar, utf8, utf16, encoded};
+ghost use Rattle.text.specs.Utf8.{sequenceLength, secondRange, hasIn, stepAt, partsFrom, firstIllFormed, lossy};
+
+// The range of a byte, both ends in it.
+pub struct Range {
+    pub low: u8,
+    pub high: u8,
+}
+
+// The length of a well-formed sequence by its first byte: its leading ones, none for a sequence of one byte. 0: it starts none.
+pub fn sequence_length(lead: u8) -> u32
+    ensures { λ r. ⌜ r ≡ sequenceLength lead ⌝ }
+{
+    let ones = u8::leading_zeros(!lead);
+    match lead {
+        0x80..=0xC1 | 0xF5..=0xFF => 0,
+        _ => if ones == 0 { 1 } else { ones },
+    }
+}
+
+// The range of the second byte, which the first byte alone decides.
+pub fn second_range(lead: u8) -> Range
+    ensures { λ r. ⌜ r ≡ secondRange lead ⌝ }
+{
+    match lead {
+        0xE0 => Range {
+            low: 0xA0,
+            high: 0xBF,
+        },
+        0xED => Range {
+            low: 0x80,
+            high: 0x9F,
+        },
+        0xF0 => Range {
+            low: 0x90,
+            high: 0xBF,
+        },
+        0xF4 => Range {
+            low: 0x80,
+            high: 0x8F,
+        },
+        0x00..=0xDF | 0xE1..=0xEC | 0xEE..=0xEF | 0xF1..=0xF3 | 0xF5..=0xFF => Range {
+            low: 0x80,
+            high: 0xBF,
+        },
+    }
+}
+
+// Whether s has a byte from low to high at i.
+fn has(s: &[u8], i: usize, low: u8, high: u8) -> bool
+    ensures { λ r. ⌜ r ≡ hasIn (now (s .entry)) i low high ⌝ }
+{
+    if i < s.len() {
+        low <= s[i] && s[i] <= high
+    } else {
+        false
+    }
+}
+
+// What decoding at a position finds.
+pub enum Step {
+    // A well-formed sequence: its scalar value, and the position past it.
+    Scalar { value: u32, next: usize },
+    // A maximal ill-formed part, which ends before next.
+    IllFormed { next: usize },
+    // Nothing is left.
+    End,
+}
+
+// One well-formed sequence at a position, or the end of the maximal ill-formed part that is there. ASCII is answered at once.
+pub fn step_at(s: &[u8], at: usize) -> Step
+    ensures { λ r. ⌜ r ≡ stepAt (now (s .entry)) at ⌝ }
+{
+    if s.len() <= at {
+        return Step::End;
+    }
+    let lead = s[at];
+    if lead < 0x80 {
+        return Step::Scalar {
+            value: lead as u32,
+            next: at + 1,
+        };
+    }
+    sequence_at(s, at)
+}
+
+// The same at a byte that is there.
+fn sequence_at(s: &[u8], at: usize) -> Step
+    requires { ⌜ at < length (now s) ⌝ }
+    ensures { λ r. ⌜ r ≡ stepAt (now (s .entry)) at ⌝ }
+{
+    let lead = s[at];
+    let n = sequence_length(lead);
+    if n == 0 {
+        return Step::IllFormed { next: at + 1 };
+    }
+    if n == 1 {
+        return Step::Scalar {
+            value: lead as u32,
+            next: at + 1,
+        };
+    }
+    let range = second_range(lead);
+    if !has(s, at + 1, range.low, range.high) {
+        return Step::IllFormed { next: at + 1 };
+    }
+    let b = (s[at + 1] % 64) as u32;
+    if n == 2 {
+        return Step::Scalar {
+            value: (lead % 32) as u32 * 64 + b,
+            next: at + 2,
+        };
+    }
+    if !has(s, at + 2, 0x80, 0xBF) {
+        return Step::IllFormed { next: at + 2 };
+    }
+    let c = (s[at + 2] % 64) as u32;
+    if n == 3 {
+        return Step::Scalar {
+            value: (lead % 16) as u32 * 4096 + b * 64 + c,
+            next: at + 3,
+        };
+    }
+    if !has(s, at + 3, 0x80, 0xBF) {
+        return Step::IllFormed { next: at + 3 };
+    }
+    let d = (s[at + 3] % 64) as u32;
+    Step::Scalar {
+        value: (lead % 8) as u32 * 262144 + b * 4096 + c * 64 + d,
+        next: at + 4,
+    }
+}
+
+// Whether a number is a Unicode scalar value.
+pub fn is_scalar(value: u32) -> bool
+    ensures { λ r. ⌜ r ≡ isScalar value ⌝ }
+{
+    value < 0xD800 || 0xDFFF < value && value < 0x110000
+}
+
+// The number of bytes of a scalar value.
+pub fn utf8_len(value: u32) -> usize
+    ensures { λ r. ⌜ (r ≡ length (utf8 value)) × (r ≤ 4) ⌝ }
+{
+    if value < 0x80 {
+        return 1;
+    }
+    if value < 0x800 {
+        return 2;
+    }
+    if value < 0x10000 {
+        return 3;
+    }
+    4
+}
+
+// The number of code units of a scalar value.
+pub fn utf16_len(value: u32) -> usize
+    ensures { λ r. ⌜ (r ≡ length (utf16 value)) × (r ≤ 2) ⌝ }
+{
+    if value < 0x10000 {
+        return 1;
+    }
+    2
+}
+
+// At most two code units; what is not used is 0.
+pub struct Units {
+    pub count: usize,
+    pub first: u16,
+    pub second: u16,
+}
+
+// The code units of a scalar value, none for a number that is no scalar value.
+pub fn utf16_units(value: u32) -> Units
+    ensures { λ r. ⌜ r ≡ unitsFrom (encoded utf16 value) ⌝ }
+{
+    if !is_scalar(value) {
+        return Units {
+            count: 0,
+            first: 0,
+            second: 0,
+        };
+    }
+    if value < 0x10000 {
+        return Units {
+            count: 1,
+            first: value as u16,
+            second: 0,
+        };
+    }
+    let v = value - 0x10000;
+    Units {
+        count: 2,
+        first: (0xD800 + v / 1024) as u16,
+        second: (0xDC00 + v % 1024) as u16,
+    }
+}
+
+// Writes the bytes of a scalar value into out from index at where they fit, and returns the index after them. A number that is no
+// scalar value, and one whose bytes do not fit, writes nothing.
+pub fn put_scalar(value: u32, out: &mut [u8], at: usize) -> usize
+    ensures { λ r. ⌜ Places (now (out .entry)) at (encoded utf8 value) r (now (out .exit)) ⌝ }
+{
+    if !is_scalar(value) {
+        return at;
+    }
+    let n = utf8_len(value);
+    if out.len() < n {
+        return at;
+    }
+    if out.len() - n < at {
+        return at;
+    }
+    put_bytes(value, out, at)
+}
+
+// The same where the bytes fit.
+fn put_bytes(value: u32, out: &mut [u8], at: usize) -> usize
+    requires { ⌜ (value < 1114112) × (at + length (utf8 value) ≤ length (now out)) ⌝ }
+    ensures { λ r. ⌜ r ≡ at + length (utf8 value) ⌝ }
+    ensures { λ _. ⌜ now (out .exit) ≡ put (now (out .entry)) at (utf8 value) ⌝ }
+{
+    if value < 0x80 {
+        out[at] = value as u8;
+        return at + 1;
+    }
+    if value < 0x800 {
+        out[at] = (0xC0 + value / 64) as u8;
+        out[at + 1] = (0x80 + value % 64) as u8;
+        return at + 2;
+    }
+    if value < 0x10000 {
+        out[at] = (0xE0 + value / 4096) as u8;
+        out[at + 1] = (0x80 + value / 64 % 64) as u8;
+        out[at + 2] = (0x80 + value % 64) as u8;
+        return at + 3;
+    }
+    out[at] = (0xF0 + value / 262144) as u8;
+    out[at + 1] = (0x80 + value / 4096 % 64) as u8;
+    out[at + 2] = (0x80 + value / 64 % 64) as u8;
+    out[at + 3] = (0x80 + value % 64) as u8;
+    at + 4
+}
+
+// The number of UTF-16 code units of a well-formed text, or the position of the first ill-formed part.
+pub enum UnitCount {
+    Units(usize),
+    IllFormed(usize),
+}
+
+pub fn count_units(text: &[u8]) -> UnitCount
+    ensures { λ r. ⌜ CountsUnits (now (text .entry)) r ⌝ }
+{
+    let mut n: usize = 0;
+    let mut i: usize = 0;
+    loop {
+        match step_at(text, i) {
+            Step::Scalar { value, next } => {
+                n += utf16_len(value);
+                i = next;
+            }
+            Step::IllFormed { next: _ } => {
+                return UnitCount::IllFormed(i);
+            }
+            Step::End => {
+                return UnitCount::Units(n);
+            }
+        }
+    }
+}
+
+// Whether a text is well-formed, or the position of the first ill-formed part.
+pub enum Validity {
+    WellFormed,
+    IllFormed(usize),
+}
+
+pub fn validate(text: &[u8]) -> Validity
+    ensures { λ r. ⌜ validityPlace r ≡ firstIllFormed (partsFrom (now (text .entry)) 0) ⌝ }
+{
+    match count_units(text) {
+        UnitCount::Units(_) => Validity::WellFormed,
+        UnitCount::IllFormed(at) => Validity::IllFormed(at),
+    }
+}
+
+// The length of a repaired text and the number of ill-formed parts that were replaced, a genuine U+FFFD not among them; or that the
+// length does not fit 64 bits.
+pub enum LossyLength {
+    Length { bytes: usize, replaced: usize },
+    TooLong,
+}
+
+pub fn lossy_length(s: &[u8]) -> LossyLength
+    ensures { λ r. ⌜ r ≡ lossyLength (now (s .entry)) ⌝ }
+{
+    let mut bytes: usize = 0;
+    let mut replaced: usize = 0;
+    let mut i: usize = 0;
+    loop {
+        match step_at(s, i) {
+            Step::Scalar { value, next } => {
+                let n = utf8_len(value);
+                if 0xFFFF_FFFF_FFFF_FFFF - bytes < n {
+                    return LossyLength::TooLong;
+                }
+                bytes += n;
+                i = next;
+            }
+            Step::IllFormed { next } => {
+                if 0xFFFF_FFFF_FFFF_FFFF - bytes < 3 {
+                    return LossyLength::TooLong;
+                }
+                bytes += 3;
+                replaced += 1;
+                i = next;
+            }
+            Step::End => {
+                return LossyLength::Length { bytes, replaced };
+            }
+        }
+    }
+}
+
+// Writes the repaired text of s to the start of out, which is long enough for it.
+fn put_lossy(s: &[u8], out: &mut [u8])
+    requires { ⌜ length (lossy (now s)) ≤ length (now out) ⌝ }
+    ensures { λ _. ⌜ now (out .exit) ≡ put (now (out .entry)) 0 (lossy (now (s .entry))) ⌝ }
+{
+    let mut i: usize = 0;
+    let mut o: usize = 0;
+    loop {
+        match step_at(s, i) {
+            Step::Scalar { value, next } => {
+                o = put_scalar(value, out, o);
+                i = next;
+            }
+            Step::IllFormed { next } => {
+                o = put_scalar(0xFFFD, out, o);
+                i = next;
+            }
+            Step::End => {
+                return;
+            }
+        }
+    }
+}
+
+// What writing a repaired text came to: its bytes and the number of replaced parts, or the bytes that it needs.
+pub enum LossyReply {
+    Written { bytes: usize, replaced: usize },
+    TooShort(usize),
+}
+
+// Writes the repaired text of s, in which each maximal ill-formed part is EF BF BD, to the start of out, or nothing where out is too
+// short for all of it.
+pub fn write_lossy(s: &[u8], out: &mut [u8]) -> LossyReply
+    ensures { λ r. ⌜ WritesLossy (now (s .entry)) (now (out .entry)) r (now (out .exit)) ⌝ }
+{
+    match lossy_length(s) {
+        LossyLength::Length { bytes, replaced } => {
+            if out.len() < bytes {
+                return LossyReply::TooShort(bytes);
+            }
+            put_lossy(s, out);
+            LossyReply::Written { bytes, replaced }
+        }
+        LossyLength::TooLong => LossyReply::TooShort(0xFFFF_FFFF_FFFF_FFFF),
+    }
+}
