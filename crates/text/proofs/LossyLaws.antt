@@ -5,16 +5,18 @@ use mathlib.Core.Bool.{Bool, true, false, cond}
 use mathlib.Core.List.{List, [], _++_, flatMap}
 use Prim.Native.Nat.{ℕ, _+_, _-_, _*_, _^_, _≤_, _<_, min}
 use native.Mathlib.Omega.{arith}
-use borrow.Author.Tests.{lt-ltb, le-ltb, lt-leb, le-leb, ltb-true, ltb-false}
+use borrow.Author.Tests.{lt-ltb, le-ltb, lt-leb, le-leb, leb-true, ltb-true, ltb-false}
 use lib.Dec.{leb, ltb}
 use lib.ListN.{length, length-append}
 use Rattle.text.specs.declared.utf8.Step.{Step}
 use Rattle.text.specs.declared.utf8.Step.the-variants.{Scalar, IllFormed, End}
 use Rattle.text.specs.declared.utf8.LossyLength.{LossyLength}
 use Rattle.text.specs.declared.utf8.LossyLength.the-variants as measure
+use Rattle.text.specs.declared.utf8.LossyReply.{LossyReply}
 use Rattle.text.specs.declared.utf8.LossyReply.the-variants as lossyReply
 use Rattle.text.specs.Buffer.{put, Places}
 use Rattle.text.specs.Replies.{lossyLength, WritesLossy}
+use Rattle.text.specs.Result.{needPlace}
 use Rattle.text.specs.Unicode.{isScalar, utf8, utf8s, encoded}
 use Rattle.text.specs.Utf8.{stepAt, partsFrom, repaired, replacedIn, lossy}
 use Rattle.text.proofs.BufferLaws.{put-front, SoFar, Splits, begins, ends, places-on}
@@ -105,8 +107,6 @@ module _ (s : List ℕ) where
           let f = m .fits in
           simp (lt-ltb (length (lossy s)) (2 ^ 64) (omega arith)) (ap₂ (λ (b n : ℕ). measure.Length b n) a r)
 
-pub ruleset measuring = (measure-scalar, measure-replacement, over-scalar, over-replacement, measure-last)
-
 -- ---- writing
 
 -- the text before i stands at the start of d, o bytes of it
@@ -136,8 +136,6 @@ module _ (s : List ℕ) where
       pub write-last : x ≡ End → d ≡ put d₀ 0 (lossy s)
       unfolding repaired flatMap
       write-last g = ends (lossy s) d₀ d o (rw (nothing-left s i e g) at (t .so-far)) ∙ sym (put-front d₀ (lossy s))
-
-pub ruleset writing = (write-start, write-scalar, write-replacement, write-last)
 
 -- ---- the public call
 
@@ -184,3 +182,16 @@ module _ (s out : List ℕ) {x : LossyLength} (is : x ≡ lossyLength s) where
       let t : leb (length (lossy s)) (length out) ≡ false = lt-leb (length (lossy s)) (length out) (omega arith) in
       let p : 18446744073709551615 ≡ min (length (lossy s)) (2 ^ 64 - 1) = omega arith in
       record { reply = simp t (ap (λ (k : ℕ). lossyReply.TooShort k) p); buffer = simp t }
+
+-- what is said to be written fits, for callers that go on with it
+pub written-fits : {s out out' : List ℕ} {r : LossyReply} {n k : ℕ} → WritesLossy s out r out' → r ≡ lossyReply.Written n k → n ≤ length out
+written-fits {s} {out} {out'} {r} {n} {k} w e =
+    by (leb (length (lossy s)) (length out)) refl (sym (w .reply) ∙ e)
+  where
+    by : (t : Bool) → leb (length (lossy s)) (length out) ≡ t
+        → cond t (lossyReply.Written (length (lossy s)) (replacedIn (partsFrom s 0))) (lossyReply.TooShort (needPlace (length (lossy s)))) ≡ lossyReply.Written n k
+        → n ≤ length out
+    by true h g =
+        let a : n ≡ length (lossy s) = cc in
+        omega (arith, leb-true (length (lossy s)) (length out) h)
+    by false h g = let z : _≡_ {A = ℕ} 0 1 = cc in absurd (omega arith)

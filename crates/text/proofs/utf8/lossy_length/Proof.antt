@@ -2,7 +2,7 @@
 -- Assumes nothing.
 use Rattle.text.proofs.PartLaws.{left, less}
 use borrow.Author.Needs.{needs}
-use Rattle.text.proofs.LossyLaws.{Measuring, measure-start, measuring}
+use Rattle.text.proofs.LossyLaws.{Measuring, measure-start, measure-scalar, measure-replacement, over-scalar, over-replacement, measure-last}
 use Rattle.text.proofs.utf8.lossy_length.Statement.{statement}
 use Rattle.text.proofs.utf8.lossy_length.Tie as tie
 
@@ -15,4 +15,4 @@ abbrev μ-loop : tie.MeasureT-loop
 pub lossy-length-spec : {M : Type 1} → statement M
 lossy-length-spec =
     tie.close
-    (tie.spec Inv-loop μ-loop (λ c. search measure-start) (λ c κs. search (measuring, needs)) (λ c. search (measuring, needs)) (λ c κs. search (measuring, needs)) (λ c. search (measuring, needs)) (λ c. search (measuring, needs)) (λ c. search (measuring, needs)) (λ c. search less) (λ c. search (measuring, needs)) (λ c. search (measuring, needs)) (λ c. search (measuring, needs)) (λ c. search (measuring, needs)) (λ c. search (measuring, needs)) (λ c. search (measuring, needs)) (λ c. search less) (λ c. search (measuring, needs)) (λ c. search (measuring, needs)) (λ c. search (measuring, needs)))
+    (tie.spec Inv-loop μ-loop (λ c. search measure-start) (λ c κs. search needs) (λ c. search needs) (λ c κs. search needs) (λ c. search needs) (λ c. search (over-scalar, needs)) (λ c. search needs) (λ c. search less) (λ c. search (measure-scalar, needs)) (λ c. search needs) (λ c. search needs) (λ c. search (over-replacement, needs)) (λ c. search needs) (λ c. search needs) (λ c. search less) (λ c. search (measure-replacement, needs)) (λ c. search needs) (λ c. search (measure-last, needs)))

@@ -2,7 +2,7 @@
 -- Assumes nothing.
 use Rattle.text.proofs.PartLaws.{left, less}
 use borrow.Author.Needs.{needs}
-use Rattle.text.proofs.LossyLaws.{Writing, writing}
+use Rattle.text.proofs.LossyLaws.{Writing, write-start, write-scalar, write-replacement, write-last}
 use Rattle.text.proofs.utf8.put_lossy.Statement.{statement}
 use Rattle.text.proofs.utf8.put_lossy.Tie as tie
 
@@ -15,4 +15,4 @@ abbrev μ-loop : tie.MeasureT-loop
 pub put-lossy-spec : {M : Type 1} → statement M
 put-lossy-spec =
     tie.close
-    (tie.spec Inv-loop μ-loop (λ c. search (writing, needs)) (λ c κs. search (writing, needs)) (λ c. search (writing, needs)) (λ c κs. search (writing, needs)) (λ c. search less) (λ c. search (writing, needs)) (λ c. search (writing, needs)) (λ c κs. search (writing, needs)) (λ c. search less) (λ c. search (writing, needs)) (λ c. search (writing, needs)) (λ c. search (writing, needs)) (λ c. search (writing, needs)))
+    (tie.spec Inv-loop μ-loop (λ c. search (write-start, needs)) (λ c κs. search needs) (λ c. search needs) (λ c κs. search needs) (λ c. search less) (λ c. search (write-scalar, needs)) (λ c. search needs) (λ c κs. search needs) (λ c. search less) (λ c. search (write-replacement, needs)) (λ c. search needs) (λ c. search needs) (λ c. search (write-last, needs)))

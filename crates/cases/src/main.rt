@@ -1,0 +1,86 @@
+// Runs the examples that are not proved as cases: those of the Unicode Standard, chapter 3. Each line is the input and what the library
+// makes of it, in hexadecimal.
+mod print;
+
+use text::utf8::LossyReply;
+use text::utf8::Validity;
+use text::utf16::TextReply;
+
+fn main() {
+    // D92: the code points 004D 0430 4E8C 10302.
+    show(b"well-formed", b"\x4D\xD0\xB0\xE4\xBA\x8C\xF0\x90\x8C\x82");
+    show(b"well-formed", b"\xF4\x80\x83\x92");
+    show(b"a genuine U+FFFD", b"\xEF\xBF\xBD");
+    show(b"C0 starts nothing", b"\xC0\xAF");
+    show(b"E0 9F", b"\xE0\x9F\x80");
+    show(b"Table 3-8", b"\xC0\xAF\xE0\x80\xBF\xF0\x81\x82\x41");
+    show(b"Table 3-9", b"\xED\xA0\x80\xED\xBF\xBF\xED\xAF\x41");
+    show(b"Table 3-10", b"\xF4\x91\x92\x93\xFF\x41\x80\xBF\x42");
+    show(b"Table 3-11", b"\xE1\x80\xE2\xF0\x91\x92\xF1\xBF\x41");
+    show(b"nothing", b"");
+    // D91: the same code points.
+    units(
+        b"well-formed",
+        &[0x004D, 0x0430, 0x4E8C, 0xD800, 0xDF02],
+        &mut [0; 10],
+    );
+    units(
+        b"one byte short",
+        &[0x004D, 0x0430, 0x4E8C, 0xD800, 0xDF02],
+        &mut [0; 9],
+    );
+    units(b"high alone", &[0x0041, 0xD800], &mut [0; 16]);
+    units(b"low first", &[0xDC00, 0xD800], &mut [0; 16]);
+    units(b"high, then no low", &[0xD800, 0x0041], &mut [0; 16]);
+    units(b"29 before 34", &[0x0041, 0xDFFF], &mut [0; 0]);
+    units(b"nothing", &[], &mut [0; 0]);
+}
+
+// A text: its repaired text and how many parts of it were replaced, and the position of the first ill-formed part.
+fn show(label: &[u8], bytes: &[u8]) {
+    print::label(label);
+    print::bytes(bytes, bytes.len());
+    let mut out = [0u8; 64];
+    match text::utf8::write_lossy(bytes, &mut out) {
+        LossyReply::Written { bytes: n, replaced } => {
+            io::write_all(1, b" ->");
+            print::bytes(&out, n);
+            io::write_all(1, b", replaced ");
+            io::print_decimal(1, replaced as u64);
+        }
+        LossyReply::TooShort(need) => {
+            io::write_all(1, b" needs ");
+            io::print_decimal(1, need as u64);
+        }
+    }
+    match text::utf8::validate(bytes) {
+        Validity::WellFormed => {
+            io::write_all(1, b", well-formed\n");
+        }
+        Validity::IllFormed(at) => {
+            io::write_all(1, b", ill-formed at ");
+            io::print_decimal(1, at as u64);
+            io::write_all(1, b"\n");
+        }
+    }
+}
+
+// Code units: their text in a buffer, or the refusal.
+fn units(label: &[u8], list: &[u16], out: &mut [u8]) {
+    print::label(label);
+    print::units(list);
+    match text::utf16::decode_utf16(list, out) {
+        TextReply::Text(n) => {
+            io::write_all(1, b" ->");
+            print::bytes(out, n);
+        }
+        TextReply::Error(e) => {
+            let f = e.failure();
+            io::write_all(1, b" refused ");
+            io::print_decimal(1, f.number as u64);
+            io::write_all(1, b" ");
+            io::print_decimal(1, f.place);
+        }
+    }
+    io::write_all(1, b"\n");
+}
