@@ -1,0 +1,177 @@
+// The fields of a line, parted by single spaces, and the numbers in them.
+ghost use mathlib.Core.Path.{_≡_};
+ghost use Prim.Native.Nat.{_≤_};
+ghost use lib.ListN.{length};
+
+// A number or a count that a field holds, or that it holds none.
+pub enum Number {
+    Value(usize),
+    Unreadable,
+}
+
+// The index of the first byte that is `wanted`, from index start on, or the length where there is none.
+fn find(text: &[u8], start: usize, wanted: u8) -> usize
+    ensures { λ r. ⌜ r ≤ length (now (text .entry)) ⌝ }
+{
+    let mut i = start;
+    while i < text.len() {
+        if text[i] == wanted {
+            return i;
+        }
+        i += 1;
+    }
+    text.len()
+}
+
+// The bytes from index start to before index end, none where there is no such part.
+pub fn part(text: &[u8], start: usize, end: usize) -> &[u8] {
+    if end <= text.len() {
+        if start <= end {
+            return &text[start..end];
+        }
+    }
+    &text[0..0]
+}
+
+// Zeros. The `ensures` gives only the length, as that of io::buffer does, so that no goal has the zeros one by one.
+pub fn units_buffer() -> [u16; 4096]
+    ensures { λ r. ⌜ 4096 ≡ length r ⌝ }
+{
+    [0; 4096]
+}
+
+// The first n units, none where there are fewer.
+pub fn first_units(units: &[u16], n: usize) -> &[u16] {
+    if n <= units.len() {
+        return &units[0..n];
+    }
+    &units[0..0]
+}
+
+// The index at which a field begins, counted from 0, or the length where the line has fewer.
+fn start_of(line: &[u8], field: usize) -> usize {
+    let mut spaces = field;
+    let mut i = 0;
+    while i < line.len() {
+        if spaces == 0 {
+            return i;
+        }
+        if line[i] == b' ' {
+            spaces -= 1;
+        }
+        i += 1;
+    }
+    i
+}
+
+// A field by its number, counted from 0; empty where the line has fewer.
+pub fn field(line: &[u8], number: usize) -> &[u8] {
+    let start = start_of(line, number);
+    part(line, start, find(line, start, b' '))
+}
+
+// A field and all that follows it.
+pub fn rest(line: &[u8], number: usize) -> &[u8] {
+    part(line, start_of(line, number), line.len())
+}
+
+pub fn starts_with(text: &[u8], start: &[u8]) -> bool {
+    if text.len() < start.len() {
+        return false;
+    }
+    let mut i = 0;
+    while i < start.len() {
+        if text[i] != start[i] {
+            return false;
+        }
+        i += 1;
+    }
+    true
+}
+
+pub fn same(a: &[u8], b: &[u8]) -> bool {
+    a.len() == b.len() && starts_with(a, b)
+}
+
+// The value of a digit, 16 for a byte that is none.
+fn digit(byte: u8) -> u8 {
+    match byte {
+        b'0'..=b'9' => byte - b'0',
+        b'a'..=b'f' => byte - b'a' + 10,
+        _ => 16,
+    }
+}
+
+// The number that digits spell in base 10 or 16. A sixteenth of all numbers leaves room for one more digit of either.
+fn value_of(digits: &[u8], base: usize) -> Number
+    requires { ⌜ base ≤ 16 ⌝ }
+{
+    let mut value: usize = 0;
+    let mut i = 0;
+    while i < digits.len() {
+        let d = digit(digits[i]) as usize;
+        if base <= d {
+            return Number::Unreadable;
+        }
+        if usize::MAX / 16 < value {
+            return Number::Unreadable;
+        }
+        value = value * base + d;
+        i += 1;
+    }
+    if i == 0 {
+        return Number::Unreadable;
+    }
+    Number::Value(value)
+}
+
+pub fn decimal(field: &[u8]) -> Number {
+    value_of(field, 10)
+}
+
+// Bytes of two digits, or `-` for none: how many there are, written to the start of out.
+pub fn bytes(field: &[u8], out: &mut [u8]) -> Number {
+    if same(field, b"-") {
+        return Number::Value(0);
+    }
+    let mut n = 0;
+    while n < out.len() {
+        let Number::Value(byte) = value_of(part(field, 2 * n, 2 * n + 2), 16) else {
+            return Number::Unreadable;
+        };
+        if 0xFF < byte {
+            return Number::Unreadable;
+        }
+        out[n] = byte as u8;
+        n += 1;
+        if 2 * n == field.len() {
+            return Number::Value(n);
+        }
+    }
+    Number::Unreadable
+}
+
+// Code units with commas between them, or `-` for none: how many there are, written to the start of out.
+pub fn units(field: &[u8], out: &mut [u16]) -> Number {
+    if same(field, b"-") {
+        return Number::Value(0);
+    }
+    let mut start = 0;
+    let mut n = 0;
+    while n < out.len() {
+        let end = find(field, start, b',');
+        let Number::Value(unit) = value_of(part(field, start, end), 16) else {
+            return Number::Unreadable;
+        };
+        if 0xFFFF < unit {
+            return Number::Unreadable;
+        }
+        out[n] = unit as u16;
+        n += 1;
+        if end == field.len() {
+            return Number::Value(n);
+        }
+        start = end + 1;
+    }
+    Number::Unreadable
+}

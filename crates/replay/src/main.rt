@@ -1,0 +1,160 @@
+// Makes the recorded calls of standard input anew, a call a line, and counts those whose answers agree. Every other line is printed.
+mod calls;
+mod fields;
+mod render;
+
+use calls::Verdict;
+use libc::STDIN_FILENO;
+use libc::STDOUT_FILENO;
+
+// The calls by number, and the lines that are none of them.
+const UTF16: usize = 0;
+
+const LOSSY: usize = 1;
+
+const OTHER: usize = 2;
+
+const KINDS: usize = 3;
+
+// The longest line. No answer is longer than its line, so the calls have buffers of as many elements.
+const LINE: usize = 4096;
+
+fn call_of(name: &[u8]) -> usize {
+    if fields::same(name, b"utf16") {
+        return UTF16;
+    }
+    if fields::same(name, b"lossy") {
+        return LOSSY;
+    }
+    OTHER
+}
+
+// No input is so long that a count wraps.
+fn count(tally: &mut [u64; KINDS], call: usize) {
+    if call < KINDS {
+        tally[call] = std::num::wrapping_add_u64(tally[call], 1);
+    }
+}
+
+// Prints why a line does not count, and its start.
+fn print_line(reason: &[u8], line: &[u8]) {
+    io::write_all(STDOUT_FILENO, reason);
+    let n = io::count(160, line);
+    io::write_all(STDOUT_FILENO, &line[..n]);
+    io::write_all(STDOUT_FILENO, b"\n");
+}
+
+fn replay(line: &[u8], seen: &mut [u64; KINDS], agreed: &mut [u64; KINDS]) {
+    let call = call_of(fields::field(line, 0));
+    let verdict = match call {
+        UTF16 => calls::utf16(line),
+        LOSSY => calls::lossy(line),
+        _ => Verdict::Unknown,
+    };
+    count(seen, call);
+    match verdict {
+        Verdict::Agrees => count(agreed, call),
+        Verdict::Differs => print_line(b"differs: ", line),
+        Verdict::Unreadable => print_line(b"unreadable: ", line),
+        Verdict::Unknown => print_line(b"unknown: ", line),
+    }
+}
+
+// The line of which `filled` bytes came, more than the buffer holds where it is too long.
+fn end_line(line: &[u8; LINE], filled: usize, seen: &mut [u64; KINDS], agreed: &mut [u64; KINDS]) {
+    if filled <= LINE {
+        replay(fields::part(line, 0, filled), seen, agreed);
+    } else {
+        count(seen, OTHER);
+        print_line(b"unreadable: ", line);
+    }
+}
+
+// Adds a byte to the line, or ends it, and returns how many bytes came of the line then. One that does not fit is dropped, and the
+// number stays one more than the buffer holds.
+fn add_byte(
+    byte: u8,
+    line: &mut [u8; LINE],
+    filled: usize,
+    seen: &mut [u64; KINDS],
+    agreed: &mut [u64; KINDS],
+) -> usize {
+    if byte == b'\n' {
+        end_line(line, filled, seen, agreed);
+        return 0;
+    }
+    if filled < LINE {
+        line[filled] = byte;
+        return filled + 1;
+    }
+    LINE + 1
+}
+
+fn add_bytes(
+    bytes: &[u8],
+    line: &mut [u8; LINE],
+    filled: usize,
+    seen: &mut [u64; KINDS],
+    agreed: &mut [u64; KINDS],
+) -> usize {
+    let mut filled = filled;
+    let mut i = 0;
+    while i < bytes.len() {
+        filled = add_byte(bytes[i], line, filled, seen, agreed);
+        i += 1;
+    }
+    filled
+}
+
+// Reads once, and answers whether to go on.
+fn read_some(
+    line: &mut [u8; LINE],
+    filled: &mut usize,
+    seen: &mut [u64; KINDS],
+    agreed: &mut [u64; KINDS],
+) -> bool {
+    let mut buffer = io::buffer();
+    let got = libc::read(STDIN_FILENO, &mut buffer);
+    if got < 0 {
+        io::write_all(STDOUT_FILENO, b"input unreadable\n");
+        return false;
+    }
+    let n = io::count(got, &buffer);
+    *filled = add_bytes(&buffer[..n], line, *filled, seen, agreed);
+    0 < n
+}
+
+// Reads to the end of the input, and answers whether it came. Nothing says that it does, so the loop counts its turns down.
+fn read_all(line: &mut [u8; LINE], seen: &mut [u64; KINDS], agreed: &mut [u64; KINDS]) -> bool {
+    let mut filled: usize = 0;
+    let mut turns: u32 = 1048576;
+    while 0 < turns && read_some(line, &mut filled, seen, agreed) {
+        turns -= 1;
+    }
+    if 0 < filled {
+        end_line(line, filled, seen, agreed);
+    }
+    0 < turns
+}
+
+fn print_total(name: &[u8], agreed: u64, seen: u64) {
+    io::write_all(STDOUT_FILENO, name);
+    io::print_decimal(STDOUT_FILENO, agreed);
+    io::write_all(STDOUT_FILENO, b" of ");
+    io::print_decimal(STDOUT_FILENO, seen);
+    io::write_all(STDOUT_FILENO, b"\n");
+}
+
+fn main() {
+    let mut line = io::buffer();
+    let mut seen = [0u64; KINDS];
+    let mut agreed = [0u64; KINDS];
+    if !read_all(&mut line, &mut seen, &mut agreed) {
+        io::write_all(STDOUT_FILENO, b"input too long\n");
+    }
+    print_total(b"utf16 ", agreed[UTF16], seen[UTF16]);
+    print_total(b"lossy ", agreed[LOSSY], seen[LOSSY]);
+    io::write_all(STDOUT_FILENO, b"other ");
+    io::print_decimal(STDOUT_FILENO, seen[OTHER]);
+    io::write_all(STDOUT_FILENO, b"\n");
+}

@@ -1,0 +1,81 @@
+// Our answer as a line has it, from `=` to `#`, in a buffer. A function that takes an index writes from there on, and returns the
+// index after what it wrote. What does not fit is dropped: the buffer is as long as the longest line, so no line holds such an answer.
+use text::error::MatError;
+
+fn byte(value: u8, out: &mut [u8], at: usize) -> usize {
+    if at < out.len() {
+        out[at] = value;
+        return at + 1;
+    }
+    at
+}
+
+fn word(bytes: &[u8], out: &mut [u8], at: usize) -> usize {
+    let mut next = at;
+    let mut i = 0;
+    while i < bytes.len() {
+        next = byte(bytes[i], out, next);
+        i += 1;
+    }
+    next
+}
+
+fn decimal(value: u64, out: &mut [u8], at: usize) -> usize {
+    let mut digits = [0u8; 20];
+    let n = io::decimal(value, &mut digits);
+    word(&digits[..n], out, at)
+}
+
+fn hex_byte(value: u8, out: &mut [u8], at: usize) -> usize {
+    let mut digits = [0u8; 16];
+    let n = io::hex(value as u64, 2, &mut digits);
+    word(&digits[..n], out, at)
+}
+
+// Whether a buffer still holds zeros from an index on, as all of it did before the call.
+pub fn is_untouched(buffer: &[u8], start: usize) -> bool {
+    let mut i = start;
+    while i < buffer.len() {
+        if buffer[i] != 0 {
+            return false;
+        }
+        i += 1;
+    }
+    true
+}
+
+// The first n bytes of a buffer, `-` for none. A call that wrote past them agrees with no line.
+fn bytes(buffer: &[u8], n: usize, out: &mut [u8], at: usize) -> usize {
+    if buffer.len() < n || !is_untouched(buffer, n) {
+        return word(b"overrun", out, at);
+    }
+    if n == 0 {
+        return word(b"-", out, at);
+    }
+    let mut next = at;
+    let mut i = 0;
+    while i < n {
+        next = hex_byte(buffer[i], out, next);
+        i += 1;
+    }
+    next
+}
+
+pub fn text(buffer: &[u8], n: usize, out: &mut [u8]) -> usize {
+    let at = word(b"= ok ", out, 0);
+    let at = bytes(buffer, n, out, at);
+    word(b" #", out, at)
+}
+
+// A refusal. One that wrote to a buffer agrees with no line.
+pub fn refusal(error: MatError, is_untouched: bool, out: &mut [u8]) -> usize {
+    if !is_untouched {
+        return word(b"overrun", out, 0);
+    }
+    let failure = error.failure();
+    let at = word(b"= no ", out, 0);
+    let at = decimal(failure.number as u64, out, at);
+    let at = word(b" ", out, at);
+    let at = decimal(failure.place, out, at);
+    word(b" #", out, at)
+}
