@@ -11,7 +11,7 @@ use Rattle.text.specs.declared.utf8.Step.the-variants.{Scalar, IllFormed
 use Rattle.text.specs.declared.utf8.UnitCount.{UnitCount}
 use Rattle.text.specs.declared.utf8.UnitCount.the-variants as count
 use Rattle.text.specs.declared.utf8.Validity.the-variants as validity
-use Rattle.text.specs.Replies.{countUnits, countPlace, validityPlace, CountsUnits}
+use Rattle.text.specs.Replies.{countPlace, validityPlace, CountsUnits}
 use Rattle.text.specs.Unicode.{utf16, utf16s}
 use Rattle.text.specs.Utf8.{stepAt, partsFrom, scalarsOf, scalars8, firstIllFormed, unitsOf}
 use Rattle.text.proofs.PartLaws.{scalar-on, step-reads, step-end, parts-end, parts-scalar, parts-ill-formed}

@@ -6,6 +6,7 @@ use native.Mathlib.Numerals.{add-one}
 use native.Mathlib.Omega.{arith}
 use Rattle.text.specs.Result.{Result, ok, error, check, checkEach, checkCount, foldCount, foldRange, _>>_, _>>=_}
 use Rattle.text.specs.declared.error.Failure.{Failure}
+use Rattle.text.proofs.TestLaws.{equal-or}
 
 -- what a callee's enum reply-is: f reads the reply as a result, and the reply is y
 pub reply-is : {X A : Type 0} (f : X → Result A) {x y : X} {m : Result A} → f x ≡ m → x ≡ y → m ≡ f y
@@ -94,3 +95,35 @@ module _ {S : Type 0} (f : ℕ → S → Result S) (i e : ℕ) (s : S) where
       let k : e - i ≡ suc (e - suc i) = omega arith in
       let y' : (f i s >>= foldCount f (suc i) (e - suc i)) ≡ ok u = rw k at y in
       rw add-one (bind-passed (f i s) (foldCount f (suc i) (e - suc i)) y')
+
+-- each step of a fold that passed
+foldCount-step : {S : Type 0} (f : ℕ → S → Result S) (i k : ℕ) (s : S) {u : S} → foldCount f i k s ≡ ok u → (j : ℕ) → i ≤ j → j < i + k → (a : S) × ((b : S) × (f j a ≡ ok b))
+unfolding foldCount
+foldCount-step f i zero s e j l h = absurd (omega arith)
+foldCount-step f i (suc k) s e j l h =
+    let p = bind-passed (f i s) (foldCount f (suc i) k) e in
+    equal-or j i (λ z. rw z (s, (p .0, p .1 .0))) (λ z. foldCount-step f (suc i) k (p .0) (p .1 .1) j (omega arith) (omega arith))
+
+pub foldRange-step : {S : Type 0} (f : ℕ → S → Result S) (i n : ℕ) (s : S) {u : S} → foldRange f i n s ≡ ok u → (j : ℕ) → i ≤ j → j < n → (a : S) × ((b : S) × (f j a ≡ ok b))
+unfolding foldRange
+foldRange-step f i n s e j l h = foldCount-step f i (n - i) s e j l (omega arith)
+
+-- ---- a loop that puts a check to each index of a range: it holds before i
+pub record Checks (n : ℕ) (holds : ℕ → Bool) (from e i : ℕ) : Type 0 where
+  pub bound : i ≤ e
+  pub after : from ≤ i
+  pub rest : checkEach n holds from e ≡ checkEach n holds i e
+
+module _ (n : ℕ) (holds : ℕ → Bool) (from e : ℕ) where
+  pub checks-start : from ≤ e → Checks n holds from e from
+  checks-start h = record { bound = h; after = omega arith; rest = refl }
+
+  module _ {i : ℕ} (c : Checks n holds from e i) where
+    pub checks-turn : i < e → holds i ≡ true → Checks n holds from e (i + 1)
+    checks-turn h y = record { bound = omega arith; after = omega arith; rest = c .rest ∙ checkEach-yes n holds i e h y }
+
+    pub checks-stop : i < e → holds i ≡ false → checkEach n holds from e ≡ error (record { number = n; place = i })
+    checks-stop h y = c .rest ∙ checkEach-no n holds i e h y
+
+    pub checks-last : e ≤ i → checkEach n holds from e ≡ ok tt
+    checks-last h = c .rest ∙ checkEach-done n holds i e h

@@ -1,16 +1,16 @@
 -- UTF-8: what was encoded is read back, what is read was encoded, and the repaired text.
 -- Assumes nothing.
 use mathlib.Core.Path.{_≡_, refl, _∙_, sym, ap, ap₂}
-use mathlib.Core.Bool.{Bool, true, false, cond, _&&_}
+use mathlib.Core.Bool.{Bool, true, false, cond}
 use mathlib.Core.List.{List, [], _∷_, _++_, append-assoc, append-nil, map, flatMap}
 use mathlib.Core.Option.{Option, some, none, Option·map}
-use Prim.Native.Nat.{ℕ, zero, suc, _+_, _-_, _*_, _/_, _%_, _≤_, _<_}
+use Prim.Native.Nat.{ℕ, suc, _+_, _-_, _*_, _/_, _%_, _≤_, _<_}
 use native.Mathlib.Omega.{arith}
 use borrow.Author.Tests.{ltb-true, leb-true, leb-false, eqb-true, eqb-false}
 use lib.Dec.{ltb, leb, eqb}
 use lib.ListN.{length, getD, drop, length-append, length-drop, drop-of-length-le}
 use lib.Seq.{getD-append-add, getD-append-seam, drop-cons}
-use Rattle.text.specs.declared.utf8.Step.the-variants.{Scalar, IllFormed, End}
+use Rattle.text.specs.declared.utf8.Step.the-variants.{Scalar}
 use Rattle.text.specs.Unicode.{utf8, utf8s}
 use Rattle.text.specs.Utf8.{sequenceLength, secondRange, hasIn, matched, wholeAt, nextAt, valueAt, stepAt, Part, sequence, illFormed, partsFrom, scalarsOf, repaired, scalars8, lossy}
 use Rattle.text.proofs.LeadLaws.{Lead, lead-range, starts-byte, Second, second-is, step-1, step-2, step-3, step-4, Spells, spells-1, spells-2, spells-3, spells-4}

@@ -11,6 +11,11 @@ use lib.ListN.{length, take, drop}
 unfoldable pub put : List ℕ → ℕ → List ℕ → List ℕ
 put d i w = take i d ++ w ++ drop (i + length w) d
 
+-- what a function that writes w at i, where it fits, returns and leaves
+pub record Puts (d : List ℕ) (i : ℕ) (w : List ℕ) (next : ℕ) (d' : List ℕ) : Type 0 where
+  pub end : next ≡ i + length w
+  pub buffer : d' ≡ put d i w
+
 -- d with w from index i on where w fits, and else d; and the index after what was written
 unfoldable pub placed : List ℕ → ℕ → List ℕ → List ℕ
 placed d i w = cond (leb (i + length w) (length d)) (put d i w) d

@@ -4,7 +4,7 @@ use crate::utf8::put_scalar;
 use crate::utf8::utf8_len;
 ghost use mathlib.Core.Path.{_≡_};
 ghost use mathlib.Core.Option.{Option·map};
-ghost use Prim.Native.Nat.{_≤_, _<_};
+ghost use Prim.Native.Nat.{_<_};
 ghost use lib.ListN.{length, getD};
 ghost use Rattle.text.specs.Buffer.{put};
 ghost use Rattle.text.specs.Replies.{lengthOf, DecodesUtf16};

@@ -1,0 +1,9 @@
+pub mod ArrayLaws
+pub mod FileWrapperLaws
+pub mod MeasureLaws
+pub mod PackLaws
+pub mod PayloadLaws
+pub mod ShapeLaws
+pub mod SpanLaws
+pub mod StringLaws
+pub mod WordLaws

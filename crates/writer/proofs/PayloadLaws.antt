@@ -1,0 +1,118 @@
+-- Writing a payload that was measured, and the outcomes of `encode_string_saveobj_payload`.
+-- Assumes nothing.
+use mathlib.Core.Path.{_≡_, refl, sym, ap, _∙_}
+use mathlib.Core.List.{List, [], _∷_, _++_}
+use Prim.Native.Nat.{ℕ, _+_, _-_, _≤_, _<_, _^_, min}
+use native.Mathlib.Omega.{arith}
+use borrow.Author.Tests.{le-leb, lt-leb}
+use lib.ListN.{length, set, length-set}
+use Rattle.text.specs.Buffer.{put}
+use Rattle.text.specs.Errors.{failureOf}
+use Rattle.text.specs.Result.{Result, ok, error, mapResult, overwritten}
+use Rattle.text.specs.declared.error.MatError.{MatError}
+use Rattle.text.specs.declared.error.MatError.the-variants.{OutputTooShort}
+use Rattle.text.proofs.BufferLaws.{put-front, put-more, length-put}
+use Rattle.text.proofs.ByteLaws.{stores}
+use Rattle.writer.specs.Array.{Array, stringWords, payload, arrayOf, encodePayload}
+use Rattle.writer.specs.Replies.{lengthReplyOf, measuredPayload, EncodesPayload}
+use Rattle.writer.specs.Spans.{stringsIn}
+use Rattle.writer.specs.Stages.{arrayIn, PayloadFits, StringsFit}
+use Rattle.writer.specs.declared.string_object.LengthReply.{LengthReply}
+use Rattle.writer.specs.declared.string_object.LengthReply.the-variants as reply
+use Rattle.writer.proofs.ArrayLaws.{length-payload, array-is, strings-inside, strings-well-formed}
+
+-- ---- writing: version and number of dimensions, dimensions, strings
+
+module _ {dims text spans : List ℕ} (d : List ℕ) (f : PayloadFits dims text spans (length d)) where
+  size : 2 + length dims + length (stringWords (stringsIn text spans)) ≤ length d
+  size = omega (arith, f .fits, length-payload (arrayIn dims text spans))
+
+  pub first-room : 0 < length d
+  first-room = omega (arith, size)
+
+  pub second-room : 1 < length (set d 0 1)
+  second-room = simp length-set (omega (arith, size))
+
+  pub dims-room : 2 + length dims ≤ length (set (set d 0 1) 1 (length dims))
+  dims-room = simp length-set (omega (arith, size))
+
+  heads : set (set d 0 1) 1 (length dims) ≡ put d 0 (1 ∷ length dims ∷ [])
+  heads = stores (1 ∷ length dims ∷ []) d 0 (omega (arith, size))
+
+  module _ {d' : List ℕ} (e : d' ≡ put (set (set d 0 1) 1 (length dims)) 2 dims) where
+    dims-put : d' ≡ put d 0 ((1 ∷ length dims ∷ []) ++ dims)
+    dims-put = e ∙ ap (λ (w : List ℕ). put w 2 dims) heads ∙ put-more d 0 (1 ∷ length dims ∷ []) dims 2 refl (omega (arith, size))
+
+    same-length : length d' ≡ length d
+    same-length = ap length dims-put ∙ length-put d 0 (1 ∷ length dims ∷ dims) (omega (arith, size))
+
+    pub strings-fit : {base : ℕ} → base ≡ 2 + length dims → StringsFit text spans base (length d')
+    strings-fit w = record {
+      inside = λ i h. strings-inside dims text spans (f .passed) i h;
+      well-formed = λ i h. strings-well-formed dims text spans (f .passed) i h;
+      fits = omega (arith, size, same-length);
+    }
+
+    pub payload-put : {d'' : List ℕ} {base : ℕ} → base ≡ 2 + length dims → d'' ≡ put d' base (stringWords (stringsIn text spans)) → d'' ≡ put d 0 (payload (arrayIn dims text spans))
+    unfolding payload
+    payload-put {d''} {base} w g =
+        g ∙ ap (λ (x : List ℕ). put x base (stringWords (stringsIn text spans))) dims-put
+        ∙ put-more d 0 (1 ∷ length dims ∷ dims) (stringWords (stringsIn text spans)) base (omega arith) (omega (arith, size))
+
+    pub payload-same : {d'' : List ℕ} {base : ℕ} → base ≡ 2 + length dims → d'' ≡ put d' base (stringWords (stringsIn text spans)) → length d'' ≡ length d
+    payload-same w g = ap length (payload-put w g) ∙ length-put d 0 (payload (arrayIn dims text spans)) (omega (arith, f .fits))
+
+-- ---- the public call
+
+comes : (dims text spans words : List ℕ) (m : Result (List ℕ)) {r : LengthReply} {words' : List ℕ} → encodePayload dims text spans (length words) ≡ m → lengthReplyOf r ≡ mapResult length m
+    → words' ≡ overwritten (λ w. w) m words → EncodesPayload dims text spans words r words'
+comes dims text spans words m e p q = record {
+  reply = p ∙ ap (mapResult length) (sym e);
+  buffer = q ∙ ap (λ (n : Result (List ℕ)). overwritten (λ w. w) n words) (sym e);
+}
+
+module _ (dims text spans words : List ℕ) {x : LengthReply} (is : lengthReplyOf x ≡ measuredPayload dims text spans) where
+  -- what measuring said of the array
+  passed : (m : Result Array) → arrayOf dims text spans ≡ m → {n : ℕ} → x ≡ reply.Length n
+      → (arrayOf dims text spans ≡ ok (arrayIn dims text spans)) × (length (payload (arrayIn dims text spans)) ≡ n)
+  passed (ok a) e {n} g =
+      let k = array-is dims text spans e in
+      let h : mapResult (λ (a : Array). length (payload a)) (ok a) ≡ ok n = ap (mapResult (λ a. length (payload a))) (sym e) ∙ sym is ∙ ap lengthReplyOf g in
+      let l : length (payload a) ≡ n = cc in
+      (e ∙ ap ok k, ap (λ (a : Array). length (payload a)) (sym k) ∙ l)
+  passed (error f) e {n} g =
+      let h : mapResult (λ (a : Array). length (payload a)) (error f) ≡ ok n = ap (mapResult (λ a. length (payload a))) (sym e) ∙ sym is ∙ ap lengthReplyOf g in
+      let z : _≡_ {A = ℕ} 0 1 = cc in
+      absurd (omega arith)
+
+  failed : (m : Result Array) → arrayOf dims text spans ≡ m → {e : MatError} → x ≡ reply.Error e → arrayOf dims text spans ≡ error (failureOf e)
+  failed (ok a) w {e} g =
+      let h : mapResult (λ (a : Array). length (payload a)) (ok a) ≡ error (failureOf e) = ap (mapResult (λ a. length (payload a))) (sym w) ∙ sym is ∙ ap lengthReplyOf g in
+      let z : _≡_ {A = ℕ} 0 1 = cc in
+      absurd (omega arith)
+  failed (error f) w {e} g =
+      let h : mapResult (λ (a : Array). length (payload a)) (error f) ≡ error (failureOf e) = ap (mapResult (λ a. length (payload a))) (sym w) ∙ sym is ∙ ap lengthReplyOf g in
+      let k : f ≡ failureOf e = cc in
+      w ∙ ap error k
+
+  pub encode-refused : {e : MatError} → x ≡ reply.Error e → EncodesPayload dims text spans words (reply.Error e) words
+  unfolding encodePayload
+  encode-refused {e} g = comes dims text spans words (error (failureOf e)) (rw (failed (arrayOf dims text spans) refl g)) refl refl
+
+  module _ {n : ℕ} (g : x ≡ reply.Length n) where
+    pub encode-fits : n ≤ length words → PayloadFits dims text spans (length words)
+    encode-fits h = let s = passed (arrayOf dims text spans) refl g in record { passed = s .0; fits = omega arith }
+
+    pub encode-short : n < 2 ^ 64 → length words < n → EncodesPayload dims text spans words (reply.Error (OutputTooShort n)) words
+    unfolding encodePayload
+    encode-short b h =
+        let s = passed (arrayOf dims text spans) refl g in
+        let p : min (length (payload (arrayIn dims text spans))) (2 ^ 64 - 1) ≡ n = omega arith in
+        comes dims text spans words (error (record { number = 34; place = n })) (rw (s .0) (simp (lt-leb (length (payload (arrayIn dims text spans))) (length words) (omega arith), p))) refl refl
+
+    pub encode-written : n ≤ length words → {words' : List ℕ} → words' ≡ put words 0 (payload (arrayIn dims text spans)) → EncodesPayload dims text spans words (reply.Length n) words'
+    unfolding encodePayload
+    encode-written h b =
+        let s = passed (arrayOf dims text spans) refl g in
+        comes dims text spans words (ok (payload (arrayIn dims text spans))) (rw (s .0) (simp (le-leb (length (payload (arrayIn dims text spans))) (length words) (omega arith)))) (ap ok (sym (s .1)))
+        (b ∙ put-front words (payload (arrayIn dims text spans)))

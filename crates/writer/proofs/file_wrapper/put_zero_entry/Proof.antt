@@ -1,0 +1,55 @@
+-- `writer::file_wrapper::put_zero_entry` meets its contract.
+-- Assumes nothing.
+use mathlib.Core.Path.{_≡_, ap}
+use mathlib.Core.List.{[], _∷_}
+use native.Mathlib.Omega.{arith}
+use borrow.Author.Needs.{needs}
+use lib.ListN.{length}
+use Rattle.writer.specs.FileWrapper.{zeroEntry}
+use Rattle.writer.proofs.FileWrapperLaws.{one-pair, three-pairs}
+use Rattle.writer.proofs.file_wrapper.put_zero_entry.Statement.{statement}
+use Rattle.writer.proofs.file_wrapper.put_zero_entry.Tie as tie
+
+-- the entry's words
+saved : (c : tie.After-enum-told) → zeroEntry (c .before .before .before .args .kind) ≡ 0 ∷ 0 ∷ []
+saved c = ap zeroEntry (c .enum-told .given .1)
+
+objects : (c : tie.After-enum-told2) → zeroEntry (c .before .before .before .args .kind) ≡ 0 ∷ 0 ∷ 0 ∷ 0 ∷ 0 ∷ 0 ∷ []
+objects c = ap zeroEntry (c .enum-told2 .given .1)
+
+dependents : (c : tie.After-enum-told3) → zeroEntry (c .before .before .before .args .kind) ≡ 0 ∷ 0 ∷ []
+dependents c = ap zeroEntry (c .enum-told3 .given .1)
+
+put-pair-requires : tie.Need-put-pair-requires
+put-pair-requires c κs = omega (arith, ap length (saved (c .before)))
+
+put-pair-requires-2 : tie.Need-put-pair-requires-2
+put-pair-requires-2 c κs = omega (arith, ap length (objects (c .before)))
+
+put-pair-requires-3 : tie.Need-put-pair-requires-3
+put-pair-requires-3 c κs = omega (arith, ap length (objects (c .before .before .before .before .before)))
+
+put-pair-requires-4 : tie.Need-put-pair-requires-4
+put-pair-requires-4 c κs = omega (arith, ap length (objects (c .before .before .before .before .before .before .before .before .before)))
+
+put-pair-requires-5 : tie.Need-put-pair-requires-5
+put-pair-requires-5 c κs = omega (arith, ap length (dependents (c .before)))
+
+returns : tie.Need-returns
+returns c = one-pair (saved (c .before .before .before .before)) (c .before .before .put-pair .ensures)
+
+returns-2 : tie.Need-returns-2
+returns-2 c =
+    let four = c .before .before .before .before in
+    let two = four .before .before .before .before in
+    let start = two .before .before .before .before in
+    three-pairs (objects start) (two .before .before .put-pair2 .ensures) (four .before .before .put-pair3 .ensures) (c .before .before .put-pair4 .ensures)
+    (start .before .before .before .pre)
+
+returns-3 : tie.Need-returns-3
+returns-3 c = one-pair (dependents (c .before .before .before .before)) (c .before .before .put-pair5 .ensures)
+
+pub put-zero-entry-spec : {M : Type 1} → statement M
+put-zero-entry-spec =
+    tie.close
+    (tie.spec (λ c. search needs) put-pair-requires (λ c. search needs) put-pair-requires-2 put-pair-requires-3 put-pair-requires-4 (λ c. search needs) put-pair-requires-5 (λ c. search needs) returns (λ c. search needs) returns-2 (λ c. search needs) returns-3)

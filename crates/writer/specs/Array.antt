@@ -1,0 +1,61 @@
+-- An array of strings, its saveobj payload, and the checks of writing one.
+-- Assumes nothing.
+use Prim.Native.Nat.{ℕ, _+_, _*_, _^_}
+use mathlib.Core.List.{List, [], _∷_, _++_, map, flatMap}
+use mathlib.Core.Option.{Option·getD}
+use lib.Dec.{leb, ltb, eqb}
+use lib.ListN.{length, getD}
+use Rattle.text.specs.Result.{Result, ok, check, checkOutput, foldRange, _>>_, _>>=_}
+use Rattle.text.specs.Utf8.{unitsOf}
+use Rattle.writer.specs.Spans.{checkStrings}
+use Rattle.writer.specs.Words.{packed}
+
+-- dimensions, and strings in UTF-8
+pub record Array : Type 0 where
+  pub dims : List ℕ
+  pub strings : List (List ℕ)
+
+-- the code units of a well-formed string
+abbrev pub stringUnits : List ℕ → List ℕ
+stringUnits s = Option·getD (unitsOf s) []
+
+abbrev pub unitCounts : List (List ℕ) → List ℕ
+unitCounts ss = map (λ s. length (stringUnits s)) ss
+
+abbrev pub allUnits : List (List ℕ) → List ℕ
+allUnits ss = flatMap stringUnits ss
+
+-- "lengths in code units, then units four to a word"
+unfoldable pub stringWords : List (List ℕ) → List ℕ
+stringWords ss = unitCounts ss ++ packed (allUnits ss)
+
+-- "1, number of dimensions, dimensions", and the strings
+unfoldable pub payload : Array → List ℕ
+payload a = 1 ∷ length (a .dims) ∷ (a .dims ++ stringWords (a .strings))
+
+-- 31 for dimension i: "Does the product of the dimensions stay below 2^64 at each step"; the place is the number of strings
+unfoldable pub checkProduct : List ℕ → ℕ → ℕ → ℕ → Result ℕ
+checkProduct dims n i p = do
+  check 31 (ltb (p * getD dims i 0) (2 ^ 64)) n
+  ok (p * getD dims i 0)
+
+-- 31 for n strings
+unfoldable pub checkShape : List ℕ → ℕ → Result (Unit {0})
+checkShape dims n = do
+  product ← foldRange (checkProduct dims n) 0 (length dims) 1
+  check 31 (eqb product n) n
+
+-- the array of dimensions and of strings cut from a text, with 30, 31 and 32's "at most 2,097,152 words"
+unfoldable pub arrayOf : List ℕ → List ℕ → List ℕ → Result Array
+arrayOf dims text spans = do
+  strings ← checkStrings text spans
+  checkShape dims (length strings)
+  check 32 (leb (length (payload (record { dims = dims; strings = strings }))) 2097152) (length (payload (record { dims = dims; strings = strings })))
+  ok (record { dims = dims; strings = strings })
+
+-- writing a payload: 30, 31, 32, 34, for an output of `room` words
+unfoldable pub encodePayload : List ℕ → List ℕ → List ℕ → ℕ → Result (List ℕ)
+encodePayload dims text spans room = do
+  a ← arrayOf dims text spans
+  checkOutput (length (payload a)) room
+  ok (payload a)
