@@ -3,11 +3,15 @@
 use Prim.Native.Nat.{ℕ}
 use mathlib.Core.Path.{_≡_, refl}
 use mathlib.Core.List.{List, [], _∷_, map, flatMap}
-use mathlib.Core.Option.{Option, some, none}
-use Rattle.text.specs.Result.{Result, ok, error, orError}
+use mathlib.Core.Option.{Option}
+use lib.ListN.{length, take, drop}
+use Rattle.text.specs.Result.{Result, ok, mapResult, orError, foldCount, foldRange}
 use Rattle.text.specs.Unicode.{utf8, utf16}
 use Rattle.text.specs.Utf8.{table, find, sequenceLength, secondRange, hasIn, matched, valueAt, wholeAt, nextAt, stepAt, partsCount, partsFrom, scalarsOf, repaired, scalars8, lossy, unitsOf}
-use Rattle.text.specs.declared.error.Failure.{Failure}
+use Rattle.writer.specs.Array.{stringWords, payload, checkProduct, checkShape, arrayOf, encodePayload}
+use Rattle.writer.specs.FileWrapper.{u32s, entriesFrom, region, regions, offsetsFrom, fileWrapper, buildMetadata}
+use Rattle.writer.specs.Spans.{stringsFrom, checkString, checkStrings}
+use Rattle.writer.specs.Words.{value, packed}
 
 pub record Case : Type 0 where
   pub computed : Result (List ℕ)
@@ -20,10 +24,23 @@ comes c e = record { computed = c; expected = e }
 abbrev given : Option (List ℕ) → Result (List ℕ)
 given m = orError (record { number = 0; place = 0 }) m
 
+-- 01's "A€" with dimensions 1, 1, as it is lent: a text and one span
+abbrev ascii-euro : List ℕ
+ascii-euro = 0x41 ∷ 0xE2 ∷ 0x82 ∷ 0xAC ∷ []
+
 unfoldable pub starred : List Case
 starred =
+    -- n = 0: 144 bytes; n = 2: 240 bytes; and their offsets
+    comes (mapResult (λ b. length b ∷ []) (buildMetadata 0 144)) (ok (144 ∷ []))
+    ∷ comes (ok (offsetsFrom 56 (regions 0))) (ok (56 ∷ 88 ∷ 96 ∷ 120 ∷ 128 ∷ 136 ∷ 136 ∷ 144 ∷ []))
+    ∷ comes (mapResult (λ b. length b ∷ []) (buildMetadata 2 240)) (ok (240 ∷ []))
+    ∷ comes (ok (offsetsFrom 56 (regions 2))) (ok (56 ∷ 88 ∷ 128 ∷ 200 ∷ 208 ∷ 232 ∷ 232 ∷ 240 ∷ []))
+    -- the offsets as they stand in the blob, bytes 8 to 39
+    ∷ comes (mapResult (λ b. take 32 (drop 8 b)) (buildMetadata 2 240)) (ok (u32s (56 ∷ 88 ∷ 128 ∷ 200 ∷ 208 ∷ 232 ∷ 232 ∷ 240 ∷ [])))
+    -- "A€" with dimensions 1, 1: 1, 2, 1, 1, 2, 20AC0041
+    ∷ comes (encodePayload (1 ∷ 1 ∷ []) ascii-euro (0 ∷ 4 ∷ []) 6) (ok (1 ∷ 2 ∷ 1 ∷ 1 ∷ 2 ∷ 0x20AC0041 ∷ []))
     -- U+1F6E2 is F0 9F 9B A2, units D83D DEE2
-    comes (ok (utf8 0x1F6E2)) (ok (0xF0 ∷ 0x9F ∷ 0x9B ∷ 0xA2 ∷ []))
+    ∷ comes (ok (utf8 0x1F6E2)) (ok (0xF0 ∷ 0x9F ∷ 0x9B ∷ 0xA2 ∷ []))
     ∷ comes (ok (utf16 0x1F6E2)) (ok (0xD83D ∷ 0xDEE2 ∷ []))
     ∷ comes (given (scalars8 (0xF0 ∷ 0x9F ∷ 0x9B ∷ 0xA2 ∷ []))) (ok (0x1F6E2 ∷ []))
     ∷ comes (given (unitsOf (0xF0 ∷ 0x9F ∷ 0x9B ∷ 0xA2 ∷ []))) (ok (0xD83D ∷ 0xDEE2 ∷ []))
@@ -33,5 +50,5 @@ starred =
     ∷ []
 
 pub starred-hold : map (λ c. c .computed) starred ≡ map (λ c. c .expected) starred
-unfolding starred flatMap utf8 utf16 scalarsOf repaired partsFrom partsCount stepAt wholeAt nextAt valueAt matched hasIn sequenceLength secondRange find table
+unfolding starred flatMap foldRange foldCount buildMetadata fileWrapper offsetsFrom regions region entriesFrom u32s encodePayload arrayOf checkShape checkProduct checkStrings checkString stringsFrom payload stringWords packed value utf8 utf16 scalarsOf repaired partsFrom partsCount stepAt wholeAt nextAt valueAt matched hasIn sequenceLength secondRange find table
 starred-hold = refl

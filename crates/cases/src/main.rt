@@ -1,10 +1,11 @@
-// Runs the examples that are not proved as cases: those of the Unicode Standard, chapter 3. Each line is the input and what the library
-// makes of it, in hexadecimal.
+// Runs the examples that are not proved as cases: those of the Unicode Standard, chapter 3, and document 01's unstarred ones. Each line is
+// the input and what the library makes of it; bytes and code units are hexadecimal.
 mod print;
 
 use text::utf8::LossyReply;
 use text::utf8::Validity;
 use text::utf16::TextReply;
+use writer::string_object::LengthReply;
 
 fn main() {
     // D92: the code points 004D 0430 4E8C 10302.
@@ -34,6 +35,11 @@ fn main() {
     units(b"high, then no low", &[0xD800, 0x0041], &mut [0; 16]);
     units(b"29 before 34", &[0x0041, 0xDFFF], &mut [0; 0]);
     units(b"nothing", &[], &mut [0; 0]);
+    // A program has no room for 16,777,200 bytes; 34 shows that 32 passed.
+    build(b"no objects", 0, &mut [0; 144]);
+    build(b"one byte short", 2, &mut [0; 239]);
+    build(b"most objects", 349522, &mut [0; 16]);
+    build(b"too many objects", 349523, &mut [0; 16]);
 }
 
 // A text: its repaired text and how many parts of it were replaced, and the position of the first ill-formed part.
@@ -75,11 +81,24 @@ fn units(label: &[u8], list: &[u16], out: &mut [u8]) {
             print::bytes(out, n);
         }
         TextReply::Error(e) => {
-            let f = e.failure();
-            io::write_all(1, b" refused ");
-            io::print_decimal(1, f.number as u64);
-            io::write_all(1, b" ");
-            io::print_decimal(1, f.place);
+            print::refusal(e);
+        }
+    }
+    io::write_all(1, b"\n");
+}
+
+// The metadata blob for a number of objects in a buffer: its length, or the refusal.
+fn build(label: &[u8], objects: u64, out: &mut [u8]) {
+    print::label(label);
+    io::write_all(1, b" ");
+    io::print_decimal(1, objects);
+    match writer::string_object::build_string_filewrapper_metadata(objects, out) {
+        LengthReply::Length(n) => {
+            io::write_all(1, b" -> bytes ");
+            io::print_decimal(1, n as u64);
+        }
+        LengthReply::Error(e) => {
+            print::refusal(e);
         }
     }
     io::write_all(1, b"\n");

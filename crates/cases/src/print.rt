@@ -1,9 +1,19 @@
 // Hexadecimal on standard output.
+use text::error::MatError;
 
 // A label and a colon.
 pub fn label(text: &[u8]) {
     io::write_all(1, text);
     io::write_all(1, b":");
+}
+
+// A refusal's number and place.
+pub fn refusal(e: MatError) {
+    let f = e.failure();
+    io::write_all(1, b" refused ");
+    io::print_decimal(1, f.number as u64);
+    io::write_all(1, b" ");
+    io::print_decimal(1, f.place);
 }
 
 // Each of the first n bytes as a space and two digits.
