@@ -5,6 +5,9 @@ use crate::render;
 use text::error::MatError;
 use text::utf8::LossyReply;
 use text::utf16::TextReply;
+use writer::string_object::LengthReply;
+use writer::string_object::build_string_filewrapper_metadata;
+use writer::string_object::encode_string_saveobj_payload;
 
 pub enum Verdict {
     Agrees,
@@ -66,4 +69,62 @@ pub fn lossy(line: &[u8]) -> Verdict {
         ),
     };
     compare(line, 2, answer, n)
+}
+
+// write TEXT SPANS DIMS words-length
+pub fn write(line: &[u8]) -> Verdict {
+    let text: &mut [u8] = &mut io::buffer();
+    let spans: &mut [u64] = &mut fields::words_buffer();
+    let dims: &mut [u64] = &mut fields::words_buffer();
+    let words: &mut [u64] = &mut fields::words_buffer();
+    let answer: &mut [u8] = &mut io::buffer();
+    let Number::Value(bytes) = fields::bytes(fields::field(line, 1), text) else {
+        return Verdict::Unreadable;
+    };
+    let Number::Value(span_words) = fields::words(fields::field(line, 2), spans) else {
+        return Verdict::Unreadable;
+    };
+    let Number::Value(rank) = fields::words(fields::field(line, 3), dims) else {
+        return Verdict::Unreadable;
+    };
+    let Number::Value(length) = fields::decimal(fields::field(line, 4)) else {
+        return Verdict::Unreadable;
+    };
+    if words.len() < length {
+        return Verdict::Unreadable;
+    }
+    let n = match encode_string_saveobj_payload(
+        fields::first_words(dims, rank),
+        fields::part(text, 0, bytes),
+        fields::first_words(spans, span_words),
+        &mut words[0..length],
+    ) {
+        LengthReply::Length(count) => render::payload(words, count, answer),
+        LengthReply::Error(error) => render::refusal(
+            error,
+            render::are_words_untouched(words, 0),
+            answer,
+        ),
+    };
+    compare(line, 5, answer, n)
+}
+
+// build n blob-length
+pub fn build(line: &[u8]) -> Verdict {
+    let blob: &mut [u8] = &mut io::buffer();
+    let answer: &mut [u8] = &mut io::buffer();
+    let Number::Value(objects) = fields::decimal(fields::field(line, 1)) else {
+        return Verdict::Unreadable;
+    };
+    let Number::Value(length) = fields::decimal(fields::field(line, 2)) else {
+        return Verdict::Unreadable;
+    };
+    if blob.len() < length {
+        return Verdict::Unreadable;
+    }
+    let n = match build_string_filewrapper_metadata(objects as u64, &mut blob[0..length]) {
+        LengthReply::Length(bytes) => render::text(blob, bytes, answer),
+        LengthReply::Error(error) => render::refusal(error, render::is_untouched(blob, 0), answer),
+    };
+    compare(line, 3, answer, n)
 }

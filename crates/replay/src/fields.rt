@@ -40,12 +40,25 @@ pub fn units_buffer() -> [u16; 4096]
     [0; 4096]
 }
 
+pub fn words_buffer() -> [u64; 4096]
+    ensures { λ r. ⌜ 4096 ≡ length r ⌝ }
+{
+    [0; 4096]
+}
+
 // The first n units, none where there are fewer.
 pub fn first_units(units: &[u16], n: usize) -> &[u16] {
     if n <= units.len() {
         return &units[0..n];
     }
     &units[0..0]
+}
+
+pub fn first_words(words: &[u64], n: usize) -> &[u64] {
+    if n <= words.len() {
+        return &words[0..n];
+    }
+    &words[0..0]
 }
 
 // The index at which a field begins, counted from 0, or the length where the line has fewer.
@@ -167,6 +180,28 @@ pub fn units(field: &[u8], out: &mut [u16]) -> Number {
             return Number::Unreadable;
         }
         out[n] = unit as u16;
+        n += 1;
+        if end == field.len() {
+            return Number::Value(n);
+        }
+        start = end + 1;
+    }
+    Number::Unreadable
+}
+
+// Words, in the same form.
+pub fn words(field: &[u8], out: &mut [u64]) -> Number {
+    if same(field, b"-") {
+        return Number::Value(0);
+    }
+    let mut start = 0;
+    let mut n = 0;
+    while n < out.len() {
+        let end = find(field, start, b',');
+        let Number::Value(word) = value_of(part(field, start, end), 16) else {
+            return Number::Unreadable;
+        };
+        out[n] = word as u64;
         n += 1;
         if end == field.len() {
             return Number::Value(n);

@@ -12,9 +12,13 @@ const UTF16: usize = 0;
 
 const LOSSY: usize = 1;
 
-const OTHER: usize = 2;
+const WRITE: usize = 2;
 
-const KINDS: usize = 3;
+const BUILD: usize = 3;
+
+const OTHER: usize = 4;
+
+const KINDS: usize = 5;
 
 // The longest line. No answer is longer than its line, so the calls have buffers of as many elements.
 const LINE: usize = 4096;
@@ -25,6 +29,12 @@ fn call_of(name: &[u8]) -> usize {
     }
     if fields::same(name, b"lossy") {
         return LOSSY;
+    }
+    if fields::same(name, b"write") {
+        return WRITE;
+    }
+    if fields::same(name, b"build") {
+        return BUILD;
     }
     OTHER
 }
@@ -49,6 +59,8 @@ fn replay(line: &[u8], seen: &mut [u64; KINDS], agreed: &mut [u64; KINDS]) {
     let verdict = match call {
         UTF16 => calls::utf16(line),
         LOSSY => calls::lossy(line),
+        WRITE => calls::write(line),
+        BUILD => calls::build(line),
         _ => Verdict::Unknown,
     };
     count(seen, call);
@@ -154,6 +166,8 @@ fn main() {
     }
     print_total(b"utf16 ", agreed[UTF16], seen[UTF16]);
     print_total(b"lossy ", agreed[LOSSY], seen[LOSSY]);
+    print_total(b"write ", agreed[WRITE], seen[WRITE]);
+    print_total(b"build ", agreed[BUILD], seen[BUILD]);
     io::write_all(STDOUT_FILENO, b"other ");
     io::print_decimal(STDOUT_FILENO, seen[OTHER]);
     io::write_all(STDOUT_FILENO, b"\n");

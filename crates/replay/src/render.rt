@@ -26,14 +26,26 @@ fn decimal(value: u64, out: &mut [u8], at: usize) -> usize {
     word(&digits[..n], out, at)
 }
 
-fn hex_byte(value: u8, out: &mut [u8], at: usize) -> usize {
+// At least as many digits as the width.
+fn hex(value: u64, width: usize, out: &mut [u8], at: usize) -> usize {
     let mut digits = [0u8; 16];
-    let n = io::hex(value as u64, 2, &mut digits);
+    let n = io::hex(value, width, &mut digits);
     word(&digits[..n], out, at)
 }
 
 // Whether a buffer still holds zeros from an index on, as all of it did before the call.
 pub fn is_untouched(buffer: &[u8], start: usize) -> bool {
+    let mut i = start;
+    while i < buffer.len() {
+        if buffer[i] != 0 {
+            return false;
+        }
+        i += 1;
+    }
+    true
+}
+
+pub fn are_words_untouched(buffer: &[u64], start: usize) -> bool {
     let mut i = start;
     while i < buffer.len() {
         if buffer[i] != 0 {
@@ -55,7 +67,25 @@ fn bytes(buffer: &[u8], n: usize, out: &mut [u8], at: usize) -> usize {
     let mut next = at;
     let mut i = 0;
     while i < n {
-        next = hex_byte(buffer[i], out, next);
+        next = hex(buffer[i] as u64, 2, out, next);
+        i += 1;
+    }
+    next
+}
+
+// The first n words of a buffer, with commas between them, in the same way.
+fn words(buffer: &[u64], n: usize, out: &mut [u8], at: usize) -> usize {
+    if buffer.len() < n || !are_words_untouched(buffer, n) {
+        return word(b"overrun", out, at);
+    }
+    if n == 0 {
+        return word(b"-", out, at);
+    }
+    let mut next = hex(buffer[0], 1, out, at);
+    let mut i = 1;
+    while i < n {
+        next = byte(b',', out, next);
+        next = hex(buffer[i], 1, out, next);
         i += 1;
     }
     next
@@ -64,6 +94,12 @@ fn bytes(buffer: &[u8], n: usize, out: &mut [u8], at: usize) -> usize {
 pub fn text(buffer: &[u8], n: usize, out: &mut [u8]) -> usize {
     let at = word(b"= ok ", out, 0);
     let at = bytes(buffer, n, out, at);
+    word(b" #", out, at)
+}
+
+pub fn payload(buffer: &[u64], n: usize, out: &mut [u8]) -> usize {
+    let at = word(b"= ok ", out, 0);
+    let at = words(buffer, n, out, at);
     word(b" #", out, at)
 }
 

@@ -6,6 +6,7 @@ pub mod LeadLaws
 pub mod LossyLaws
 pub mod MaximalSubpart
 pub mod PartLaws
+pub mod ProductLaws
 pub mod ResultLaws
 pub mod ScalarLaws
 pub mod StepLaws

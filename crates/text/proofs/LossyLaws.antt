@@ -2,7 +2,7 @@
 -- Assumes nothing.
 use mathlib.Core.Path.{_≡_, refl, _∙_, sym, ap, ap₂}
 use mathlib.Core.Bool.{Bool, true, false, cond}
-use mathlib.Core.List.{List, [], _++_, flatMap}
+use mathlib.Core.List.{List, [], _∷_, _++_, map, flatMap}
 use Prim.Native.Nat.{ℕ, _+_, _-_, _^_, _≤_, _<_, min}
 use native.Mathlib.Omega.{arith}
 use borrow.Author.Tests.{lt-ltb, le-ltb, lt-leb, le-leb, leb-true, ltb-true, ltb-false}
@@ -14,12 +14,12 @@ use Rattle.text.specs.declared.utf8.LossyLength.{LossyLength}
 use Rattle.text.specs.declared.utf8.LossyLength.the-variants as measure
 use Rattle.text.specs.declared.utf8.LossyReply.{LossyReply}
 use Rattle.text.specs.declared.utf8.LossyReply.the-variants as lossyReply
-use Rattle.text.specs.Buffer.{put, Places}
+use Rattle.text.specs.Buffer.{put, Places, Filled, fill, Fills}
 use Rattle.text.specs.Replies.{lossyLength, WritesLossy}
 use Rattle.text.specs.Result.{needPlace}
 use Rattle.text.specs.Unicode.{isScalar, utf8, utf8s, encoded}
-use Rattle.text.specs.Utf8.{stepAt, partsFrom, repaired, replacedIn, lossy}
-use Rattle.text.proofs.BufferLaws.{put-front, SoFar, Splits, begins, ends, places-on}
+use Rattle.text.specs.Utf8.{stepAt, partsFrom, repaired, replacedIn, lossy, lossySequences}
+use Rattle.text.proofs.BufferLaws.{put-front, places-same, fill-fits}
 use Rattle.text.proofs.PartLaws.{Advances, step-reads, step-breaks, step-end, parts-end, parts-scalar, parts-ill-formed}
 use Rattle.text.proofs.ScalarLaws.{is-scalar}
 use Rattle.text.proofs.Utf8Laws.{step-took}
@@ -28,27 +28,27 @@ use Rattle.text.proofs.Utf8Laws.{step-took}
 pub record Writes (s : List ℕ) (i next w k : ℕ) : Type 0 where
   pub advance : Advances s i next
   pub scalar : isScalar w ≡ true
-  pub text : utf8s (repaired (partsFrom s i)) ≡ utf8 w ++ utf8s (repaired (partsFrom s next))
+  pub parts : repaired (partsFrom s i) ≡ w ∷ repaired (partsFrom s next)
   pub count : replacedIn (partsFrom s i) ≡ k + replacedIn (partsFrom s next)
 
 module _ (s : List ℕ) (i : ℕ) {x : Step} (e : x ≡ stepAt s i) where
   pub writes-scalar : {v next : ℕ} → x ≡ Scalar v next → Writes s i next v 0
-  unfolding repaired replacedIn flatMap
+  unfolding repaired replacedIn
   writes-scalar {v} {next} g =
       let r = step-reads s i (sym e ∙ g) in
       let p = parts-scalar s i (sym e ∙ g) in
       record {
         advance = r .advance;
         scalar = is-scalar (step-took s i v next r .scalar);
-        text = rw p;
+        parts = rw p;
         count = rw p (omega arith);
       }
 
   pub writes-replacement : {next : ℕ} → x ≡ IllFormed next → Writes s i next 0xFFFD 1
-  unfolding repaired replacedIn flatMap
+  unfolding repaired replacedIn
   writes-replacement {next} g =
       let p = parts-ill-formed s i (sym e ∙ g) in
-      record { advance = step-breaks s i (sym e ∙ g) .advance; scalar = refl; text = rw p; count = rw p (omega arith) }
+      record { advance = step-breaks s i (sym e ∙ g) .advance; scalar = refl; parts = rw p; count = rw p (omega arith) }
 
   nothing-left : x ≡ End → partsFrom s i ≡ []
   nothing-left g = parts-end s i (step-end s i (sym e ∙ g))
@@ -74,7 +74,8 @@ module _ (s : List ℕ) where
   module _ {bytes replaced i : ℕ} (m : Measuring s bytes replaced i) where
     split-size : {next w k : ℕ} → Writes s i next w k
         → length (utf8s (repaired (partsFrom s i))) ≡ length (utf8 w) + length (utf8s (repaired (partsFrom s next)))
-    split-size {next} {w} x = ap length (x .text) ∙ length-append (utf8 w) (utf8s (repaired (partsFrom s next)))
+    unfolding flatMap
+    split-size {next} {w} x = ap (λ (vs : List ℕ). length (utf8s vs)) (x .parts) ∙ length-append (utf8 w) (utf8s (repaired (partsFrom s next)))
 
     turn : {next w k b r : ℕ} → Writes s i next w k → b ≡ bytes + length (utf8 w) → r ≡ replaced + k → k ≤ 1 → b < 2 ^ 64 → Measuring s b r next
     turn x eb er l f =
@@ -109,33 +110,55 @@ module _ (s : List ℕ) where
 
 -- ---- writing
 
--- the text before i stands at the start of d, o bytes of it
-pub record Writing (s d₀ d : List ℕ) (i o : ℕ) : Type 0 where
+-- the sequences from i on, put after what is written, give what all of them give
+pub record Writing (s d₀ : List ℕ) (at : ℕ) (d : List ℕ) (i o : ℕ) : Type 0 where
   pub bound : i ≤ length s
-  pub room : length (lossy s) ≤ length d₀
-  pub so-far : SoFar (lossy s) (utf8s (repaired (partsFrom s i))) d₀ d o
+  pub same : length d ≡ length d₀
+  pub rest : fill d₀ at (lossySequences s) ≡ fill d o (map utf8 (repaired (partsFrom s i)))
 
 module _ (s : List ℕ) where
-  pub write-start : (d₀ : List ℕ) → length (lossy s) ≤ length d₀ → Writing s d₀ d₀ 0 0
-  write-start d₀ h = record { bound = omega arith; room = h; so-far = begins (lossy s) d₀ }
+  pub write-start : (d₀ : List ℕ) (at : ℕ) → Writing s d₀ at d₀ 0 at
+  write-start d₀ at = record { bound = omega arith; same = refl; rest = refl }
 
-  module _ {d₀ d : List ℕ} {i o : ℕ} (t : Writing s d₀ d i o) where
-    write-on : {next w k : ℕ} → Writes s i next w k → {e : ℕ} {d' : List ℕ} → Places d o (encoded utf8 w) e d' → Writing s d₀ d' next e
+  module _ {d₀ d : List ℕ} {at i o : ℕ} (t : Writing s d₀ at d i o) where
+    write-on : {next w k : ℕ} → Writes s i next w k → {e : ℕ} {d' : List ℕ} → Places d o (encoded utf8 w) e d' → Writing s d₀ at d' next e
+    unfolding fill
     write-on {next} {w} x {e} {d'} p =
         let q : Places d o (utf8 w) e d' = simp (x .scalar) at p in
-        let l : Splits (utf8s (repaired (partsFrom s i))) (utf8 w) (utf8s (repaired (partsFrom s next))) = record { is = x .text } in
-        record { bound = x .advance .inside; room = t .room; so-far = places-on (t .room) l (t .so-far) q }
+        record {
+          bound = x .advance .inside;
+          same = places-same q ∙ t .same;
+          rest =
+              t .rest
+              ∙ ap (λ (vs : List ℕ). fill d o (map utf8 vs)) (x .parts)
+              ∙ ap₂ (λ (y : List ℕ) (k : ℕ). fill y k (map utf8 (repaired (partsFrom s next)))) (sym (q .buffer)) (sym (q .end));
+        }
 
     module _ {x : Step} (e : x ≡ stepAt s i) where
-      pub write-scalar : {v next r : ℕ} {d' : List ℕ} → x ≡ Scalar v next → Places d o (encoded utf8 v) r d' → Writing s d₀ d' next r
+      pub write-scalar : {v next r : ℕ} {d' : List ℕ} → x ≡ Scalar v next → Places d o (encoded utf8 v) r d' → Writing s d₀ at d' next r
       write-scalar g p = write-on (writes-scalar s i e g) p
 
-      pub write-replacement : {next r : ℕ} {d' : List ℕ} → x ≡ IllFormed next → Places d o (encoded utf8 0xFFFD) r d' → Writing s d₀ d' next r
+      pub write-replacement : {next r : ℕ} {d' : List ℕ} → x ≡ IllFormed next → Places d o (encoded utf8 0xFFFD) r d' → Writing s d₀ at d' next r
       write-replacement g p = write-on (writes-replacement s i e g) p
 
-      pub write-last : x ≡ End → d ≡ put d₀ 0 (lossy s)
-      unfolding repaired flatMap
-      write-last g = ends (lossy s) d₀ d o (rw (nothing-left s i e g) at (t .so-far)) ∙ sym (put-front d₀ (lossy s))
+      pub write-last : x ≡ End → Fills d₀ at (lossySequences s) o d
+      unfolding repaired fill
+      write-last g = record { is = sym (rw (nothing-left s i e g) at (t .rest)) }
+
+-- the sequences of a repaired text are the text
+sequences-joined : (vs : List ℕ) → flatMap (λ w. w) (map utf8 vs) ≡ utf8s vs
+unfolding flatMap
+sequences-joined [] = refl
+sequences-joined (v ∷ vs) = ap (λ (x : List ℕ). utf8 v ++ x) (sequences-joined vs)
+
+-- a text that fits is written
+pub lossy-fills : (s : List ℕ) {d d' : List ℕ} {i next : ℕ} → i + length (lossy s) ≤ length d → Fills d i (lossySequences s) next d'
+    → (d' ≡ put d i (lossy s)) × (next ≡ i + length (lossy s))
+lossy-fills s {d} {d'} {i} {next} h f =
+    let j = sequences-joined (repaired (partsFrom s 0)) in
+    let r = fill-fits d i (lossySequences s) (rw j h) in
+    let e = f .is ∙ r in
+    (ap (λ (x : Filled). x .buffer) e ∙ ap (put d i) j, ap (λ (x : Filled). x .next) e ∙ ap (λ (x : List ℕ). i + length x) j)
 
 -- ---- the public call
 
@@ -160,9 +183,6 @@ module _ (s out : List ℕ) {x : LossyLength} (is : x ≡ lossyLength s) where
       by true f k = let z : _≡_ {A = ℕ} 0 1 = cc in absurd (omega arith)
       by false f k = ltb-false (length (lossy s)) (2 ^ 64) f
 
-  pub lossy-room : {n r : ℕ} → x ≡ measure.Length n r → n ≤ length out → length (lossy s) ≤ length out
-  lossy-room e h = omega (arith, length-is e)
-
   pub lossy-short : {n r : ℕ} → x ≡ measure.Length n r → length out < n → WritesLossy s out (lossyReply.TooShort n) out
   lossy-short {n} e h =
       let l = length-is e in
@@ -170,11 +190,11 @@ module _ (s out : List ℕ) {x : LossyLength} (is : x ≡ lossyLength s) where
       let p : n ≡ min (length (lossy s)) (2 ^ 64 - 1) = omega (arith, l) in
       record { reply = simp t (ap (λ (k : ℕ). lossyReply.TooShort k) p); buffer = simp t }
 
-  pub lossy-written : {n r : ℕ} {out' : List ℕ} → x ≡ measure.Length n r → n ≤ length out → out' ≡ put out 0 (lossy s) → WritesLossy s out (lossyReply.Written n r) out'
+  pub lossy-written : {n r : ℕ} {out' : List ℕ} → x ≡ measure.Length n r → n ≤ length out → {o : ℕ} → Fills out 0 (lossySequences s) o out' → WritesLossy s out (lossyReply.Written n r) out'
   lossy-written e h w =
       let l = length-is e in
       let t : leb (length (lossy s)) (length out) ≡ true = le-leb (length (lossy s)) (length out) (omega (arith, l)) in
-      record { reply = simp t (ap₂ (λ (b k : ℕ). lossyReply.Written b k) (l .0) (l .1)); buffer = simp t (w ∙ put-front out (lossy s)) }
+      record { reply = simp t (ap₂ (λ (b k : ℕ). lossyReply.Written b k) (l .0) (l .1)); buffer = simp t (lossy-fills s (omega (arith, l)) w .0 ∙ put-front out (lossy s)) }
 
   pub lossy-past : length out < 2 ^ 64 - 1 → x ≡ measure.TooLong → WritesLossy s out (lossyReply.TooShort 18446744073709551615) out
   lossy-past h e =

@@ -2,10 +2,10 @@
 ghost use mathlib.Core.Path.{_≡_};
 ghost use Prim.Native.Nat.{_+_, _≤_, _<_};
 ghost use lib.ListN.{length};
-ghost use Rattle.text.specs.Buffer.{put, Places};
+ghost use Rattle.text.specs.Buffer.{put, Places, Fills};
 ghost use Rattle.text.specs.Replies.{unitsFrom, validityPlace, CountsUnits, lossyLength, WritesLossy};
 ghost use Rattle.text.specs.Unicode.{isScalar, utf8, utf16, encoded};
-ghost use Rattle.text.specs.Utf8.{sequenceLength, secondRange, hasIn, stepAt, partsFrom, firstIllFormed, lossy};
+ghost use Rattle.text.specs.Utf8.{sequenceLength, secondRange, hasIn, stepAt, partsFrom, firstIllFormed, lossySequences};
 
 // The range of a byte, both ends in it.
 pub struct Range {
@@ -329,13 +329,13 @@ pub fn lossy_length(s: &[u8]) -> LossyLength
     }
 }
 
-// Writes the repaired text of s to the start of out, which is long enough for it.
-fn put_lossy(s: &[u8], out: &mut [u8])
-    requires { ⌜ length (lossy (now s)) ≤ length (now out) ⌝ }
-    ensures { λ _. ⌜ now (out .exit) ≡ put (now (out .entry)) 0 (lossy (now (s .entry))) ⌝ }
+// Writes the repaired text of s into out from index at on, sequence by sequence, each that fits after those before it, and returns the
+// index after the last. Where the text fits as a whole, that is the text.
+pub fn put_lossy(s: &[u8], out: &mut [u8], at: usize) -> usize
+    ensures { λ r. ⌜ Fills (now (out .entry)) at (lossySequences (now (s .entry))) r (now (out .exit)) ⌝ }
 {
     let mut i: usize = 0;
-    let mut o: usize = 0;
+    let mut o = at;
     loop {
         match step_at(s, i) {
             Step::Scalar { value, next } => {
@@ -347,7 +347,7 @@ fn put_lossy(s: &[u8], out: &mut [u8])
                 i = next;
             }
             Step::End => {
-                return;
+                return o;
             }
         }
     }
@@ -369,7 +369,7 @@ pub fn write_lossy(s: &[u8], out: &mut [u8]) -> LossyReply
             if out.len() < bytes {
                 return LossyReply::TooShort(bytes);
             }
-            put_lossy(s, out);
+            put_lossy(s, out, 0);
             LossyReply::Written { bytes, replaced }
         }
         LossyLength::TooLong => LossyReply::TooShort(0xFFFF_FFFF_FFFF_FFFF),

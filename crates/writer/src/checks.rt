@@ -1,10 +1,10 @@
 // Checks 30 and 31: the strings that spans cut from a text, and the shape of an array.
+use text::convert::product_fits;
 use text::convert::to_usize;
 use text::utf8::UnitCount;
 use text::utf8::count_units;
 ghost use mathlib.Core.Path.{_≡_};
-ghost use Prim.Native.Nat.{_+_, _*_, _^_, _≤_, _<_};
-ghost use lib.Dec.{ltb};
+ghost use Prim.Native.Nat.{_+_, _*_, _≤_, _<_};
 ghost use lib.ListN.{length};
 ghost use Rattle.text.specs.Result.{check};
 ghost use Rattle.writer.specs.Array.{checkShape};
@@ -69,16 +69,6 @@ pub(crate) fn measure_strings(text: &[u8], spans: &[u64], n: usize) -> TextMeasu
         i += 1;
     }
     TextMeasure::Units(units)
-}
-
-// Whether a * b fits 64 bits.
-fn product_fits(a: u64, b: u64) -> bool
-    ensures { λ r. ⌜ r ≡ ltb (a * b) (2 ^ 64) ⌝ }
-{
-    if b == 0 {
-        return true;
-    }
-    a <= 0xFFFF_FFFF_FFFF_FFFF / b
 }
 
 // Check 31: whether the product of the dimensions stays below 2^64 at each step and is n.

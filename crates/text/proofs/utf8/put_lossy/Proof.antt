@@ -7,10 +7,10 @@ use Rattle.text.proofs.utf8.put_lossy.Statement.{statement}
 use Rattle.text.proofs.utf8.put_lossy.Tie as tie
 
 abbrev Inv-loop : tie.InvT-loop
-Inv-loop s out₀ i₀ o₀ out i o = Writing s out₀ out i o
+Inv-loop s out₀ at i₀ o₀ out i o = Writing s out₀ at out i o
 
 abbrev μ-loop : tie.MeasureT-loop
-μ-loop s out₀ i₀ o₀ out i o = left s i
+μ-loop s out₀ at i₀ o₀ out i o = left s i
 
 pub put-lossy-spec : {M : Type 1} → statement M
 put-lossy-spec =

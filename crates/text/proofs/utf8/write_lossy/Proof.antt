@@ -1,7 +1,7 @@
 -- `text::utf8::write_lossy` meets its contract.
 -- Assumes nothing.
 use native.Mathlib.Omega.{arith}
-use Rattle.text.proofs.LossyLaws.{lossy-short, lossy-room, lossy-written, lossy-past}
+use Rattle.text.proofs.LossyLaws.{lossy-short, lossy-written, lossy-past}
 use borrow.Author.Needs.{needs}
 use Rattle.text.proofs.utf8.write_lossy.Statement.{statement}
 use Rattle.text.proofs.utf8.write_lossy.Tie as tie
@@ -12,4 +12,4 @@ returns-3 c = lossy-past _ _ (c .before .before .lossy-length .ensures) (omega a
 pub write-lossy-spec : {M : Type 1} → statement M
 write-lossy-spec =
     tie.close
-    (tie.spec (λ c κs. search needs) (λ c. search needs) (λ c. search (lossy-short, needs)) (λ c κs. search (lossy-room, needs)) (λ c. search needs) (λ c. search needs) (λ c. search (lossy-written, needs)) returns-3)
+    (tie.spec (λ c κs. search needs) (λ c. search needs) (λ c. search (lossy-short, needs)) (λ c κs. search needs) (λ c. search needs) (λ c. search needs) (λ c. search (lossy-written, needs)) returns-3)

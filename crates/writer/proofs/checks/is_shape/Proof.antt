@@ -3,12 +3,14 @@
 use Prim.Native.Nat.{_-_}
 use borrow.Author.Needs.{needs}
 use lib.ListN.{length}
-use Rattle.writer.proofs.ShapeLaws.{Multiplying, shape-start, product-below, shape-turn, shape-stop, shape-last}
+use Rattle.text.proofs.ProductLaws.{Multiplying, multiply-start, product-below}
+use Rattle.writer.specs.Array.{checkProduct}
+use Rattle.writer.proofs.ShapeLaws.{shape-turn, shape-stop, shape-last}
 use Rattle.writer.proofs.checks.is_shape.Statement.{statement}
 use Rattle.writer.proofs.checks.is_shape.Tie as tie
 
 abbrev Inv-loop : tie.InvT-loop
-Inv-loop dims n product₀ i₀ product i = Multiplying dims n product i
+Inv-loop dims n product₀ i₀ product i = Multiplying (checkProduct dims n) (length dims) product i
 
 abbrev μ-loop : tie.MeasureT-loop
 μ-loop dims n product₀ i₀ product i = length dims - i
@@ -19,7 +21,7 @@ is-shape-spec =
     (tie.spec
     Inv-loop
     μ-loop
-    (λ c. search (shape-start, needs))
+    (λ c. search (multiply-start, needs))
     (λ c. search needs)
     (λ c. search needs)
     (λ c κs. search needs)

@@ -1,9 +1,0 @@
--- `writer::checks::product_fits` meets its contract.
--- Assumes nothing.
-use borrow.Author.Needs.{needs}
-use Rattle.writer.proofs.ShapeLaws.{fits-zero, fits-divided}
-use Rattle.writer.proofs.checks.product_fits.Statement.{statement}
-use Rattle.writer.proofs.checks.product_fits.Tie as tie
-
-pub product-fits-spec : {M : Type 1} → statement M
-product-fits-spec = tie.close (tie.spec (λ c. search (fits-zero, needs)) (λ c. search needs) (λ c. search (fits-divided, needs)))
