@@ -5,9 +5,11 @@ use mathlib.Core.Path.{_≡_, refl}
 use mathlib.Core.List.{List, [], _∷_, map, flatMap}
 use mathlib.Core.Option.{Option}
 use lib.ListN.{length, take, drop}
-use Rattle.text.specs.Result.{Result, ok, mapResult, orError, foldCount, foldRange}
+use Rattle.text.specs.Result.{Result, ok, error, mapResult, orError, foldCount, foldRange}
 use Rattle.text.specs.Unicode.{utf8, utf16}
 use Rattle.text.specs.Utf8.{table, find, sequenceLength, secondRange, hasIn, matched, valueAt, wholeAt, nextAt, stepAt, partsCount, partsFrom, scalarsOf, repaired, scalars8, lossy, unitsOf}
+use Rattle.reader.specs.Opaque.{checkDimension, opaqueMetadata}
+use Rattle.reader.specs.declared.opaque.OpaqueMetadata.{OpaqueMetadata}
 use Rattle.writer.specs.Array.{stringWords, payload, checkProduct, checkShape, arrayOf, encodePayload}
 use Rattle.writer.specs.FileWrapper.{u32s, entriesFrom, region, regions, offsetsFrom, fileWrapper, buildMetadata}
 use Rattle.writer.specs.Spans.{stringsFrom, checkString, checkStrings}
@@ -24,6 +26,13 @@ comes c e = record { computed = c; expected = e }
 abbrev given : Option (List ℕ) → Result (List ℕ)
 given m = orError (record { number = 0; place = 0 }) m
 
+abbrev refusal : ℕ → ℕ → Result (List ℕ)
+refusal n p = error (record { number = n; place = p })
+
+-- opaque metadata as its three numbers: the position of the first id, the number of ids, the class
+abbrev listed : OpaqueMetadata → List ℕ
+listed m = m .«first_id» ∷ m .ids ∷ m .«class_id» ∷ []
+
 -- 01's "A€" with dimensions 1, 1, as it is lent: a text and one span
 abbrev ascii-euro : List ℕ
 ascii-euro = 0x41 ∷ 0xE2 ∷ 0x82 ∷ 0xAC ∷ []
@@ -39,6 +48,11 @@ starred =
     ∷ comes (mapResult (λ b. take 32 (drop 8 b)) (buildMetadata 2 240)) (ok (u32s (56 ∷ 88 ∷ 128 ∷ 200 ∷ 208 ∷ 232 ∷ 232 ∷ 240 ∷ [])))
     -- "A€" with dimensions 1, 1: 1, 2, 1, 1, 2, 20AC0041
     ∷ comes (encodePayload (1 ∷ 1 ∷ []) ascii-euro (0 ∷ 4 ∷ []) 6) (ok (1 ∷ 2 ∷ 1 ∷ 1 ∷ 2 ∷ 0x20AC0041 ∷ []))
+    -- word list magic, 0, 7, 1: id 7
+    ∷ comes (mapResult listed (opaqueMetadata (0xDD000000 ∷ 0 ∷ 7 ∷ 1 ∷ []))) (ok (2 ∷ 1 ∷ 1 ∷ []))
+    -- magic, 4, three times 4294967295, 0, 1: 20; with the 0 put first: accepted, no ids
+    ∷ comes (mapResult listed (opaqueMetadata (0xDD000000 ∷ 4 ∷ 4294967295 ∷ 4294967295 ∷ 4294967295 ∷ 0 ∷ 1 ∷ []))) (refusal 20 2)
+    ∷ comes (mapResult listed (opaqueMetadata (0xDD000000 ∷ 4 ∷ 0 ∷ 4294967295 ∷ 4294967295 ∷ 4294967295 ∷ 1 ∷ []))) (ok (6 ∷ 0 ∷ 1 ∷ []))
     -- U+1F6E2 is F0 9F 9B A2, units D83D DEE2
     ∷ comes (ok (utf8 0x1F6E2)) (ok (0xF0 ∷ 0x9F ∷ 0x9B ∷ 0xA2 ∷ []))
     ∷ comes (ok (utf16 0x1F6E2)) (ok (0xD83D ∷ 0xDEE2 ∷ []))
@@ -50,5 +64,5 @@ starred =
     ∷ []
 
 pub starred-hold : map (λ c. c .computed) starred ≡ map (λ c. c .expected) starred
-unfolding starred flatMap foldRange foldCount buildMetadata fileWrapper offsetsFrom regions region entriesFrom u32s encodePayload arrayOf checkShape checkProduct checkStrings checkString stringsFrom payload stringWords packed value utf8 utf16 scalarsOf repaired partsFrom partsCount stepAt wholeAt nextAt valueAt matched hasIn sequenceLength secondRange find table
+unfolding starred flatMap foldRange foldCount opaqueMetadata checkDimension buildMetadata fileWrapper offsetsFrom regions region entriesFrom u32s encodePayload arrayOf checkShape checkProduct checkStrings checkString stringsFrom payload stringWords packed value utf8 utf16 scalarsOf repaired partsFrom partsCount stepAt wholeAt nextAt valueAt matched hasIn sequenceLength secondRange find table
 starred-hold = refl

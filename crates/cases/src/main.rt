@@ -2,12 +2,21 @@
 // the input and what the library makes of it; bytes and code units are hexadecimal.
 mod print;
 
+use reader::file_wrapper::FileWrapper;
+use reader::file_wrapper::ParseReply;
 use text::utf8::LossyReply;
 use text::utf8::Validity;
 use text::utf16::TextReply;
 use writer::string_object::LengthReply;
 
 fn main() {
+    of_utf8();
+    of_utf16();
+    of_writer();
+    of_reader();
+}
+
+fn of_utf8() {
     // D92: the code points 004D 0430 4E8C 10302.
     show(b"well-formed", b"\x4D\xD0\xB0\xE4\xBA\x8C\xF0\x90\x8C\x82");
     show(b"well-formed", b"\xF4\x80\x83\x92");
@@ -19,6 +28,9 @@ fn main() {
     show(b"Table 3-10", b"\xF4\x91\x92\x93\xFF\x41\x80\xBF\x42");
     show(b"Table 3-11", b"\xE1\x80\xE2\xF0\x91\x92\xF1\xBF\x41");
     show(b"nothing", b"");
+}
+
+fn of_utf16() {
     // D91: the same code points.
     units(
         b"well-formed",
@@ -35,11 +47,44 @@ fn main() {
     units(b"high, then no low", &[0xD800, 0x0041], &mut [0; 16]);
     units(b"29 before 34", &[0x0041, 0xDFFF], &mut [0; 0]);
     units(b"nothing", &[], &mut [0; 0]);
+}
+
+fn of_writer() {
     // A program has no room for 16,777,200 bytes; 34 shows that 32 passed.
     build(b"no objects", 0, &mut [0; 144]);
     build(b"one byte short", 2, &mut [0; 239]);
     build(b"most objects", 349522, &mut [0; 16]);
     build(b"too many objects", 349523, &mut [0; 16]);
+}
+
+// Headers alone, all offsets 40: the name heap is one empty piece.
+fn of_reader() {
+    open(b"39 bytes", &[0; 39]);
+    open(
+        b"one name",
+        b"\x04\0\0\0\x01\0\0\0\x28\0\0\0\x28\0\0\0\x28\0\0\0\x28\0\0\0\x28\0\0\0\x28\0\0\0\x28\0\0\0\x28\0\0\0",
+    );
+    open(
+        b"two names",
+        b"\x04\0\0\0\x02\0\0\0\x28\0\0\0\x28\0\0\0\x28\0\0\0\x28\0\0\0\x28\0\0\0\x28\0\0\0\x28\0\0\0\x28\0\0\0",
+    );
+    open(
+        b"version 0",
+        b"\0\0\0\0\x01\0\0\0\x28\0\0\0\x28\0\0\0\x28\0\0\0\x28\0\0\0\x28\0\0\0\x28\0\0\0\x28\0\0\0\x28\0\0\0",
+    );
+    open(
+        b"version 2",
+        b"\x02\0\0\0\x01\0\0\0\x28\0\0\0\x28\0\0\0\x28\0\0\0\x28\0\0\0\x28\0\0\0\x28\0\0\0\x28\0\0\0\x28\0\0\0",
+    );
+    open(
+        b"version 4294967295",
+        b"\xFF\xFF\xFF\xFF\x01\0\0\0\x28\0\0\0\x28\0\0\0\x28\0\0\0\x28\0\0\0\x28\0\0\0\x28\0\0\0\x28\0\0\0\x28\0\0\0",
+    );
+    // Offsets 6 and 7 are 0 in blobs of version 2 that are still about.
+    open(
+        b"offsets that fall",
+        b"\x02\0\0\0\x01\0\0\0\x28\0\0\0\x28\0\0\0\x28\0\0\0\x28\0\0\0\x28\0\0\0\x28\0\0\0\0\0\0\0\0\0\0\0",
+    );
 }
 
 // A text: its repaired text and how many parts of it were replaced, and the position of the first ill-formed part.
@@ -98,6 +143,21 @@ fn build(label: &[u8], objects: u64, out: &mut [u8]) {
             io::print_decimal(1, n as u64);
         }
         LengthReply::Error(e) => {
+            print::refusal(e);
+        }
+    }
+    io::write_all(1, b"\n");
+}
+
+// A blob: the names that it declares, or the refusal.
+fn open(label: &[u8], blob: &[u8]) {
+    print::label(label);
+    match FileWrapper::parse(blob) {
+        ParseReply::Parsed(w) => {
+            io::write_all(1, b" names ");
+            io::print_decimal(1, w.names as u64);
+        }
+        ParseReply::Error(e) => {
             print::refusal(e);
         }
     }

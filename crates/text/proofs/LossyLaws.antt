@@ -163,7 +163,7 @@ lossy-fills s {d} {d'} {i} {next} h f =
 -- ---- the public call
 
 module _ (s out : List ℕ) {x : LossyLength} (is : x ≡ lossyLength s) where
-  length-is : {n r : ℕ} → x ≡ measure.Length n r → (n ≡ length (lossy s)) × (r ≡ replacedIn (partsFrom s 0)) × (n < 2 ^ 64)
+  pub length-is : {n r : ℕ} → x ≡ measure.Length n r → (n ≡ length (lossy s)) × (r ≡ replacedIn (partsFrom s 0)) × (n < 2 ^ 64)
   unfolding lossyLength
   length-is {n} {r} e = by (ltb (length (lossy s)) (2 ^ 64)) refl (sym is ∙ e)
     where
@@ -174,7 +174,7 @@ module _ (s out : List ℕ) {x : LossyLength} (is : x ≡ lossyLength s) where
           (a, cc, omega (arith, a, ltb-true (length (lossy s)) (2 ^ 64) f))
       by false f k = let z : _≡_ {A = ℕ} 0 1 = cc in absurd (omega arith)
 
-  too-long-is : x ≡ measure.TooLong → 2 ^ 64 ≤ length (lossy s)
+  pub too-long-is : x ≡ measure.TooLong → 2 ^ 64 ≤ length (lossy s)
   unfolding lossyLength
   too-long-is e = by (ltb (length (lossy s)) (2 ^ 64)) refl (sym is ∙ e)
     where

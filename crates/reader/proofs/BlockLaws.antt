@@ -1,0 +1,87 @@
+-- The equations of `blocksFrom`: above them nothing looks at its count; and the loop that counts the blocks of a region.
+-- Assumes nothing.
+use mathlib.Core.Path.{_≡_, refl, sym, _∙_}
+use mathlib.Core.List.{List}
+use Prim.Native.Nat.{ℕ, zero, suc, _+_, _-_, _*_, _/_, _≤_, _<_}
+use native.Mathlib.Nat.{le-trans, mul-le-mul-right}
+use native.Mathlib.Omega.{arith}
+use borrow.Author.Tests.{le-leb, lt-leb, leb-true}
+use lib.Dec.{leb}
+use Rattle.text.specs.Result.{ok, error}
+use Rattle.text.proofs.TestLaws.{either}
+use Rattle.reader.specs.Blocks.{blockEnd, nextBlock, blocksCount, blocksFrom, blocks, IsRegion}
+use Rattle.reader.specs.Replies.{blockCountOf}
+use Rattle.reader.specs.declared.blocks.BlockCount.the-variants as count
+
+module _ (size : ℕ) (b : List ℕ) where
+  pub next-after : (i : ℕ) → blockEnd size b i ≤ nextBlock size b i
+  unfolding nextBlock
+  next-after i = omega arith
+
+  pub next-past : (i : ℕ) → i + 4 ≤ nextBlock size b i
+  next-past i = omega (arith, next-after i)
+
+  count-end : (f i e n : ℕ) → e < i + 4 → blocksCount f size b i e n ≡ ok n
+  unfolding blocksCount
+  count-end zero i e n h = refl
+  count-end (suc f) i e n h = simp (lt-leb (i + 4) e h)
+
+  -- any count that is large enough gives the same
+  same : (f g i e n : ℕ) → e - i ≤ f → e - i ≤ g → blocksCount f size b i e n ≡ blocksCount g size b i e n
+  unfolding blocksCount
+  same zero g i e n hf hg = sym (count-end g i e n (omega arith))
+  same (suc f) zero i e n hf hg = count-end (suc f) i e n (omega arith)
+  same (suc f) (suc g) i e n hf hg =
+      either (leb (i + 4) e)
+      (λ t. either (leb (blockEnd size b i) e)
+      (λ u. let p = leb-true (i + 4) e t in simp (t, u) (same f g (nextBlock size b i) e (n + 1) (omega (arith, next-past i)) (omega (arith, next-past i))))
+      (λ u. simp (t, u)))
+      (λ t. simp t)
+
+  pub blocks-end : (i e n : ℕ) → e < i + 4 → blocksFrom size b i e n ≡ ok n
+  unfolding blocksFrom
+  blocks-end i e n h = count-end (e - i) i e n h
+
+  module _ (i e n : ℕ) (h : i + 4 ≤ e) where
+    more : e - i ≡ suc (e - suc i)
+    more = omega arith
+
+    pub blocks-more : blockEnd size b i ≤ e → blocksFrom size b i e n ≡ blocksFrom size b (nextBlock size b i) e (n + 1)
+    unfolding blocksFrom blocksCount
+    blocks-more k =
+        rw more
+        (simp (le-leb (i + 4) e h, le-leb (blockEnd size b i) e k)
+        (same (e - suc i) (e - nextBlock size b i) (nextBlock size b i) e (n + 1) (omega (arith, next-past i)) (omega arith)))
+
+    pub blocks-cut : e < blockEnd size b i → blocksFrom size b i e n ≡ error (record { number = 7; place = i })
+    unfolding blocksFrom blocksCount
+    blocks-cut k = rw more (simp (le-leb (i + 4) e h, lt-leb (blockEnd size b i) e k))
+
+-- n blocks begin before i
+pub record Counting (size : ℕ) (b : List ℕ) (start e n i : ℕ) : Type 0 where
+  pub few : n ≤ i
+  pub most : i ≤ 16777224
+  pub rest : blocks size b start e ≡ blocksFrom size b i e n
+
+module _ {size : ℕ} {b : List ℕ} {start e : ℕ} (region : IsRegion b start e size) where
+  pub count-start : Counting size b start e 0 start
+  count-start = record { few = omega arith; most = omega arith; rest = refl }
+
+  module _ {n i : ℕ} (c : Counting size b start e n i) where
+    module _ {r l : ℕ} (left : r ≡ e - i) (room : 4 ≤ r) (last : l ≡ blockEnd size b i) where
+      pub count-turn : {k : ℕ} → l ≤ e → k ≡ (l + 7) / 8 * 8 → Counting size b start e (n + 1) k
+      unfolding nextBlock
+      count-turn {k} h w =
+          let x : k ≡ nextBlock size b i = rw (← last) w in
+          let p = next-past size b i in
+          record { few = omega arith; most = omega arith; rest = rw x (c .rest ∙ blocks-more size b i e n (omega arith) (omega arith)) }
+
+      pub count-stop : e < l → blockCountOf (count.Truncated i) ≡ blocks size b start e
+      count-stop h = sym (c .rest ∙ blocks-cut size b i e n (omega arith) (omega arith))
+
+    pub count-last : {r : ℕ} → r ≡ e - i → r < 4 → blockCountOf (count.Blocks n) ≡ blocks size b start e
+    count-last w h = sym (c .rest ∙ blocks-end size b i e n (omega arith))
+
+-- the entries of a block take no more than 64 bits
+pub entries-fit : {size v : ℕ} → size ≤ 12 → v < 4294967296 → size * v ≤ 51539607540
+entries-fit {size} {v} h k = le-trans (mul-le-mul-right v h) (omega arith)

@@ -1,0 +1,206 @@
+-- The outcomes of the class queries.
+-- Assumes nothing.
+use mathlib.Core.Path.{_≡_, sym, ap, _∙_, subst}
+use mathlib.Core.Bool.{true, false}
+use mathlib.Core.List.{List, [], _∷_, _++_, append-assoc}
+use Prim.Native.Nat.{ℕ, _+_, _-_, _*_, _^_, _≤_, _<_, min}
+use native.Mathlib.Omega.{arith}
+use borrow.Author.Tests.{le-leb, lt-leb, lt-ltb, le-ltb, eq-eqb, ne-eqb}
+use lib.Dec.{leb}
+use lib.ListN.{length, take, drop, set, length-append, length-set}
+use lib.Seq.{length-slice}
+use Rattle.text.specs.Buffer.{put, Puts, Fills}
+use Rattle.text.specs.Replies.{lossyLength}
+use Rattle.text.specs.Result.{ok}
+use Rattle.text.specs.Utf8.{lossy, lossySequences}
+use Rattle.text.specs.declared.error.MatError.{MatError}
+use Rattle.text.specs.declared.error.MatError.the-variants.{ObjectIdOutOfRange, ClassIdOutOfRange, NameIndexOutOfRange, OutputTooShort}
+use Rattle.text.specs.declared.utf8.LossyLength.{LossyLength}
+use Rattle.text.specs.declared.utf8.LossyLength.the-variants as measure
+use Rattle.text.proofs.BufferLaws.{put-front, put-more, length-put}
+use Rattle.text.proofs.ByteLaws.{stores}
+use Rattle.text.proofs.LossyLaws.{length-is, too-long-is, lossy-fills}
+use Rattle.text.proofs.ResultLaws.{reply-is}
+use Rattle.text.proofs.Utf8Laws.{lossy-le}
+use Rattle.reader.specs.Names.{pieceBytes, HasName, IsName, InBlob, IsLength, BothInBlob}
+use Rattle.reader.specs.Opening.{opened, Opens}
+use Rattle.reader.specs.Queries.{shown, classEntry, shownClass, entryText, classOf, classText, objectRecord, checkObject, objectClassText}
+use Rattle.reader.specs.Replies.{parseReplyOf, WritesText}
+use Rattle.reader.specs.declared.file_wrapper.FileWrapper.{FileWrapper}
+use Rattle.reader.specs.declared.file_wrapper.ParseReply.{ParseReply}
+use Rattle.reader.specs.declared.file_wrapper.ParseReply.the-variants as parse
+use Rattle.reader.specs.declared.names.NameReply.{NameReply}
+use Rattle.reader.specs.declared.names.NameReply.the-variants as name
+use Rattle.reader.specs.declared.names.Piece.{Piece}
+use Rattle.reader.specs.declared.records.ClassEntry.{ClassEntry}
+use Rattle.reader.specs.declared.records.ObjectRecord.{ObjectRecord}
+use Rattle.reader.proofs.NameLaws.{parsed, part-slice, refused}
+
+-- ---- a piece: its length, and writing it
+
+module _ (b : List ℕ) {p : Piece} (i : InBlob b p) where
+  bytes-are : take (p .end - p .start) (drop (p .start) b) ≡ pieceBytes b p
+  bytes-are = part-slice (p .start) (p .end) b (i .order)
+
+  most : length (lossy (pieceBytes b p)) ≤ 50331648
+  most = omega (arith, lossy-le (pieceBytes b p), length-slice (p .start) (p .end) b (i .inside), i)
+
+  module _ {x : LossyLength} (e : x ≡ lossyLength (take (p .end - p .start) (drop (p .start) b))) where
+    said : x ≡ lossyLength (pieceBytes b p)
+    said = e ∙ ap lossyLength bytes-are
+
+    pub length-piece : {n k : ℕ} → x ≡ measure.Length n k → IsLength b p n
+    length-piece g = let l = length-is (pieceBytes b p) [] said g in record { is = l .0; most = omega (arith, l, most) }
+
+    pub length-never : x ≡ measure.TooLong → IsLength b p 0
+    length-never g = absurd (omega (arith, too-long-is (pieceBytes b p) [] said g, most))
+
+  pub piece-puts : {text : List ℕ} {at r : ℕ} {text' : List ℕ} → at + length (lossy (pieceBytes b p)) ≤ length text
+      → Fills text at (lossySequences (take (p .end - p .start) (drop (p .start) b))) r text' → Puts text at (lossy (pieceBytes b p)) r text'
+  piece-puts {text} {at} {r} {text'} h f =
+      let g : Fills text at (lossySequences (pieceBytes b p)) r text' = subst (λ (s : List ℕ). Fills text at (lossySequences s) r text') bytes-are f in
+      let l = lossy-fills (pieceBytes b p) h g in
+      record { end = l .1; buffer = l .0 }
+
+-- ---- namespace, full stop, name
+
+module _ (b text : List ℕ) (p q : Piece) {n m need : ℕ} (a : IsLength b p n) (c : IsLength b q m) (s : need ≡ n + 1 + m) where
+  abbrev text-of : List ℕ
+  text-of = lossy (pieceBytes b p) ++ 0x2E ∷ lossy (pieceBytes b q)
+
+  size : length text-of ≡ need
+  size = omega (arith, length-append (lossy (pieceBytes b p)) (0x2E ∷ lossy (pieceBytes b q)), a, c)
+
+  pub joined-short : length text < need → WritesText (ok text-of) text (name.Error (OutputTooShort need)) text
+  joined-short h =
+      let t : leb (length text-of) (length text) ≡ false = lt-leb (length text-of) (length text) (omega (arith, size)) in
+      let k : min (length text-of) (2 ^ 64 - 1) ≡ need = omega (arith, size, a, c) in
+      record { reply = simp (t, k); buffer = simp t }
+
+  module _ (h : need ≤ length text) where
+    pub joined-first : 0 + length (lossy (pieceBytes b p)) ≤ length text
+    joined-first = omega (arith, a)
+
+    module _ {d : List ℕ} {o : ℕ} (f : Puts text 0 (lossy (pieceBytes b p)) o d) where
+      same : length d ≡ length text
+      same = ap length (f .buffer) ∙ length-put text 0 (lossy (pieceBytes b p)) joined-first
+
+      pub joined-stop : n < length d
+      joined-stop = omega (arith, same)
+
+      pub joined-second : n + 1 + length (lossy (pieceBytes b q)) ≤ length (set d n 0x2E)
+      joined-second = simp length-set (omega (arith, same, c))
+
+      module _ {d' : List ℕ} {o' : ℕ} (g : Puts (set d n 0x2E) (n + 1) (lossy (pieceBytes b q)) o' d') where
+        all : d' ≡ put text 0 text-of
+        all =
+            let x : List ℕ = lossy (pieceBytes b p) in
+            let y : List ℕ = lossy (pieceBytes b q) in
+            let dot : set d n 0x2E ≡ put text 0 (x ++ 0x2E ∷ []) =
+            stores (0x2E ∷ []) d n (omega (arith, joined-stop)) ∙ ap (λ (v : List ℕ). put v n (0x2E ∷ [])) (f .buffer) ∙ put-more text 0 x (0x2E ∷ []) n (omega (arith, a)) (omega arith) in
+            g .buffer
+            ∙ ap (λ (v : List ℕ). put v (n + 1) y) dot
+            ∙ put-more text 0 (x ++ 0x2E ∷ []) y (n + 1) (omega (arith, length-append x (0x2E ∷ []), a)) (omega (arith, c))
+            ∙ ap (put text 0) (append-assoc x (0x2E ∷ []) y)
+
+        pub joined-written : WritesText (ok text-of) text (name.Text need) d'
+        joined-written =
+            let t : leb (length text-of) (length text) ≡ true = le-leb (length text-of) (length text) (omega (arith, size)) in
+            record { reply = simp t (ap ok (sym size)); buffer = simp t (all ∙ put-front text text-of) }
+
+-- ---- the text of a class
+
+module _ {b : List ℕ} {w : FileWrapper} (o : Opens b w) where
+  pub entry-name : {i : ℕ} → i ≤ w .names → HasName b (w .offsets .o0) i
+  entry-name h = record { heap = o .heap; inside = omega (arith, o); most = omega (arith, o .names) }
+
+  entry-piece : {end index : ℕ} {p : Piece} → IsName b end index p → InBlob b p
+  entry-piece n = record { order = n .order; inside = n .inside; most = o .most }
+
+  pub entry-one : {end index : ℕ} {p : Piece} → IsName b end index p → InBlob b p
+  entry-one n = entry-piece n
+
+  pub entry-both : {end i j : ℕ} {p q : Piece} → IsName b end i p → IsName b end j q → BothInBlob b q p
+  entry-both n m = record { first = entry-piece m; second = entry-piece n }
+
+  module _ (e : ClassEntry) where
+    pub entry-outside : (text : List ℕ) → w .names < e .«name_idx» → WritesText (entryText b w e) text (name.Error (NameIndexOutOfRange (e .«name_idx»))) text
+    unfolding entryText
+    entry-outside text k = refused (entryText b w e) text (NameIndexOutOfRange (e .«name_idx»)) (simp (lt-leb (e .«name_idx») (w .names) k))
+
+    module _ (k : e .«name_idx» ≤ w .names) where
+      pub space-outside : (text : List ℕ) → w .names < e .«namespace_idx» → WritesText (entryText b w e) text (name.Error (NameIndexOutOfRange (e .«namespace_idx»))) text
+      unfolding entryText
+      space-outside text l =
+          refused (entryText b w e) text (NameIndexOutOfRange (e .«namespace_idx»))
+          (simp (le-leb (e .«name_idx») (w .names) k, lt-leb (e .«namespace_idx») (w .names) l))
+
+      entry-is : e .«namespace_idx» ≤ w .names → entryText b w e ≡ ok (shownClass b w e)
+      unfolding entryText
+      entry-is l = simp (le-leb (e .«name_idx») (w .names) k, le-leb (e .«namespace_idx») (w .names) l)
+
+      module _ (l : e .«namespace_idx» ≤ w .names) {p : Piece} (n : IsName b (w .offsets .o0) (e .«name_idx») p) {text text' : List ℕ} {r : NameReply} where
+        pub entry-plain : e .«namespace_idx» ≡ 0 → WritesText (ok (lossy (pieceBytes b p))) text r text' → WritesText (entryText b w e) text r text'
+        entry-plain z t =
+            let m : shownClass b w e ≡ shown b w (e .«name_idx») = simp (eq-eqb (e .«namespace_idx») 0 z) in
+            rw (entry-is l ∙ ap ok m) (rw (n .is) at t)
+
+        pub entry-joined : (e .«namespace_idx» ≡ 0 → ⊥) → {q : Piece} → IsName b (w .offsets .o0) (e .«namespace_idx») q
+            → WritesText (ok (lossy (pieceBytes b q) ++ 0x2E ∷ lossy (pieceBytes b p))) text r text' → WritesText (entryText b w e) text r text'
+        entry-joined z q t =
+            let m : shownClass b w e ≡ shown b w (e .«namespace_idx») ++ 0x2E ∷ shown b w (e .«name_idx») = simp (ne-eqb (e .«namespace_idx») 0 z) in
+            rw (entry-is l ∙ ap ok m) (rw (n .is, q .is) at t)
+
+  module _ (c : ℕ) where
+    pub class-outside : (text : List ℕ) → w .classes ≤ c → WritesText (classOf b w c) text (name.Error (ClassIdOutOfRange c)) text
+    unfolding classOf
+    class-outside text h = refused (classOf b w c) text (ClassIdOutOfRange c) (simp (le-ltb c (w .classes) h))
+
+    pub class-entry : c < w .classes → {e : ClassEntry} → e ≡ classEntry b w c → {text text' : List ℕ} {r : NameReply}
+        → WritesText (entryText b w e) text r text' → WritesText (classOf b w c) text r text'
+    unfolding classOf
+    class-entry h {e} is {text} {text'} {r} t =
+        let m : classOf b w c ≡ entryText b w e = rw is (simp (lt-ltb c (w .classes) h)) in
+        rw m t
+
+-- ---- the public calls
+
+module _ (b : List ℕ) {x : ParseReply} (e : parseReplyOf x ≡ opened b) where
+  module _ (c : ℕ) where
+    pub class-refused : (text : List ℕ) {f : MatError} → x ≡ parse.Error f → WritesText (classText b c) text (name.Error f) text
+    unfolding classText
+    class-refused text {f} g = refused (classText b c) text f (rw (reply-is parseReplyOf e g))
+
+    pub class-written : {w : FileWrapper} → x ≡ parse.Parsed w → {text text' : List ℕ} {r : NameReply} → WritesText (classOf b w c) text r text' → WritesText (classText b c) text r text'
+    unfolding classText
+    class-written {w} g {text} {text'} {r} t =
+        let m : classText b c ≡ classOf b w c = rw (reply-is parseReplyOf e g) in
+        rw m t
+
+  module _ (id : ℕ) where
+    pub object-refused : (text : List ℕ) {f : MatError} → x ≡ parse.Error f → WritesText (objectClassText b id) text (name.Error f) text
+    unfolding objectClassText
+    object-refused text {f} g = refused (objectClassText b id) text f (rw (reply-is parseReplyOf e g))
+
+    module _ {w : FileWrapper} (g : x ≡ parse.Parsed w) where
+      pub object-zero : (text : List ℕ) → id ≡ 0 → WritesText (objectClassText b id) text (name.Error (ObjectIdOutOfRange 0)) text
+      unfolding objectClassText checkObject
+      object-zero text z = refused (objectClassText b id) text (ObjectIdOutOfRange 0) (rw (z, reply-is parseReplyOf e g))
+
+      module _ (some : id ≡ 0 → ⊥) where
+        pub object-outside : (text : List ℕ) → w .records ≤ id → WritesText (objectClassText b id) text (name.Error (ObjectIdOutOfRange id)) text
+        unfolding objectClassText checkObject
+        object-outside text h = refused (objectClassText b id) text (ObjectIdOutOfRange id) (rw (reply-is parseReplyOf e g) (simp (le-leb 1 id (omega arith), le-ltb id (w .records) h)))
+
+        pub object-inside : id < w .records → w .offsets .o2 + 24 * id + 24 ≤ length b
+        object-inside h = let o = parsed b e g in omega (arith, o, o .object-records)
+
+        pub object-fits : id < w .records → w .offsets .o2 + 24 * id < 2 ^ 64
+        object-fits h = omega (arith, object-inside h, parsed b e g .most)
+
+        pub object-written : id < w .records → {r : ObjectRecord} → r ≡ objectRecord b w id → {text text' : List ℕ} {y : NameReply}
+            → WritesText (classOf b w (r .«class_id»)) text y text' → WritesText (objectClassText b id) text y text'
+        unfolding objectClassText checkObject
+        object-written h {r} k {text} {text'} {y} t =
+            let m : objectClassText b id ≡ classOf b w (r .«class_id») = rw (reply-is parseReplyOf e g) (rw k (simp (le-leb 1 id (omega arith), lt-ltb id (w .records) h))) in
+            rw m t

@@ -1,0 +1,164 @@
+-- What an opened blob has, and the outcomes of `name`.
+-- Assumes nothing.
+use mathlib.Core.Path.{_≡_, refl, sym, ap, _∙_, subst}
+use mathlib.Core.List.{List, [], _∷_, _++_}
+use Prim.Native.Nat.{ℕ, zero, suc, _+_, _-_, _≤_, _<_}
+use native.Mathlib.Omega.{arith}
+use borrow.Author.Tests.{le-leb, lt-leb, leb-true}
+use lib.Dec.{leb}
+use lib.ListN.{length, take, drop, length-append, length-drop}
+use lib.Seq.{slice}
+use Rattle.text.specs.Errors.{failureOf}
+use Rattle.text.specs.Replies.{WritesLossy}
+use Rattle.text.specs.Result.{Result, ok, error, checkEach, overwritten, needPlace}
+use Rattle.text.specs.Utf8.{lossy, partsFrom, replacedIn}
+use Rattle.text.specs.declared.error.MatError.{MatError}
+use Rattle.text.specs.declared.error.MatError.the-variants.{NameIndexOutOfRange, OutputTooShort}
+use Rattle.text.specs.declared.utf8.LossyReply.{LossyReply}
+use Rattle.text.specs.declared.utf8.LossyReply.the-variants as lossyReply
+use Rattle.text.proofs.ResultLaws.{reply-is, check-passed, seq-passed, bind-passed, checkEach-passed}
+use Rattle.text.proofs.TestLaws.{either}
+use Rattle.reader.specs.Blocks.{blocks}
+use Rattle.reader.specs.Names.{nameBytes, HasName, IsName, InBlob}
+use Rattle.reader.specs.Opening.{declaredNames, offset, offsets, isWithin, isOrdered, pieceCount, fileWrapper, regions, opened, Opens}
+use Rattle.reader.specs.Queries.{intoText, nameText}
+use Rattle.reader.specs.Replies.{parseReplyOf, WritesText}
+use Rattle.reader.specs.declared.file_wrapper.FileWrapper.{FileWrapper}
+use Rattle.reader.specs.declared.file_wrapper.ParseReply.{ParseReply}
+use Rattle.reader.specs.declared.file_wrapper.ParseReply.the-variants as parse
+use Rattle.reader.specs.declared.names.NameReply.{NameReply}
+use Rattle.reader.specs.declared.names.NameReply.the-variants as name
+use Rattle.reader.specs.declared.names.Piece.{Piece}
+
+-- ---- what an opened blob has
+
+pub opens : (b : List ℕ) (w : FileWrapper) → opened b ≡ ok w → Opens b w
+unfolding opened regions
+opens b w e =
+    let p1 = check-passed 1 (leb (length b) 16777216) (length b) _ e in
+    let p2 = check-passed 2 (leb 40 (length b)) (length b) _ (p1 .1) in
+    let p3 = seq-passed (checkEach 3 (isWithin b) 0 8) _ (p2 .1) in
+    let p4 = check-passed 4 (leb 40 (offset b 0)) 0 _ (p3 .1 .1) in
+    let p5 = seq-passed (checkEach 5 (isOrdered b) 1 8) _ (p4 .1) in
+    let p6 = check-passed 6 (leb (declaredNames b) (pieceCount b)) (pieceCount b) _ (p5 .1 .1) in
+    let p7 = bind-passed (blocks 12 b (offset b 1) (offset b 2)) _ (p6 .1) in
+    let p8 = bind-passed (blocks 12 b (offset b 3) (offset b 4)) _ (p7 .1 .1) in
+    let k = p8 .1 .1 in
+    let i : fileWrapper b (p7 .0) (p8 .0) ≡ w = cc in
+    subst (Opens b) i
+    (record {
+      is = rw i e;
+      most = leb-true (length b) 16777216 (p1 .0);
+      names = leb-true (declaredNames b) (pieceCount b) (p6 .0);
+      heap = leb-true 40 (offset b 0) (p4 .0);
+      classes = up (p5 .1 .0) 1 (omega arith) (omega arith);
+      saveobj = up (p5 .1 .0) 2 (omega arith) (omega arith);
+      records = up (p5 .1 .0) 3 (omega arith) (omega arith);
+      normalobj = up (p5 .1 .0) 4 (omega arith) (omega arith);
+      inside = leb-true (offset b 4) (length b) (checkEach-passed 3 (isWithin b) 0 8 (p3 .1 .0) 4 (omega arith) (omega arith));
+      class-entries = refl;
+      object-records = refl;
+    })
+  where
+    up : {u : Unit {0}} → checkEach 5 (isOrdered b) 1 8 ≡ ok u → (k : ℕ) → 1 ≤ k → k < 8 → offset b (k - 1) ≤ offset b k
+    up r k h m = leb-true (offset b (k - 1)) (offset b k) (checkEach-passed 5 (isOrdered b) 1 8 r k h m)
+
+-- what a reply of `parse` says
+pub parsed : (b : List ℕ) {x : ParseReply} {w : FileWrapper} → parseReplyOf x ≡ opened b → x ≡ parse.Parsed w → Opens b w
+parsed b {x} {w} e g = opens b w (reply-is parseReplyOf e g)
+
+-- ---- a query that writes a text
+
+-- the part of a slice from a up to e
+pub part-slice : (a e : ℕ) (b : List ℕ) → a ≤ e → take (e - a) (drop a b) ≡ slice a e b
+part-slice zero e b h =
+    let z : e - 0 ≡ e = omega arith in
+    rw z
+part-slice (suc a) zero b h = absurd (omega arith)
+part-slice (suc a) (suc e) [] h =
+    let z : suc e - suc a ≡ e - a = omega arith in
+    rw z (nothing (e - a))
+  where
+    nothing : (n : ℕ) → _≡_ {A = List ℕ} (take n []) []
+    nothing zero = refl
+    nothing (suc n) = refl
+part-slice (suc a) (suc e) (x ∷ b) h =
+    let z : suc e - suc a ≡ e - a = omega arith in
+    rw z (part-slice a e b (omega arith))
+
+pub refused : (m : Result (List ℕ)) (text : List ℕ) (e : MatError) → m ≡ error (failureOf e) → WritesText m text (name.Error e) text
+refused m text e w = rw w (record { reply = refl; buffer = refl })
+
+module _ (s text : List ℕ) {x : LossyReply} {text' : List ℕ} (l : WritesLossy s text x text') where
+  pub piece-written : {n k : ℕ} → x ≡ lossyReply.Written n k → WritesText (ok (lossy s)) text (name.Text n) text'
+  piece-written {n} {k} g =
+      either (leb (length (lossy s)) (length text))
+      (λ t. let w : lossyReply.Written n k ≡ lossyReply.Written (length (lossy s)) (replacedIn (partsFrom s 0)) = sym g ∙ simp t at (l .reply) in
+      let z : n ≡ length (lossy s) = cc in
+      record { reply = simp t (ap ok z); buffer = simp t (simp t at (l .buffer)) })
+      (λ t. let w : lossyReply.Written n k ≡ lossyReply.TooShort (needPlace (length (lossy s))) = sym g ∙ simp t at (l .reply) in
+      let z : _≡_ {A = ℕ} 0 1 = cc in
+      absurd (omega arith))
+
+  pub piece-short : {n : ℕ} → x ≡ lossyReply.TooShort n → WritesText (ok (lossy s)) text (name.Error (OutputTooShort n)) text'
+  piece-short {n} g =
+      either (leb (length (lossy s)) (length text))
+      (λ t. let w : lossyReply.TooShort n ≡ lossyReply.Written (length (lossy s)) (replacedIn (partsFrom s 0)) = sym g ∙ simp t at (l .reply) in
+      let z : _≡_ {A = ℕ} 0 1 = cc in
+      absurd (omega arith))
+      (λ t. let w : lossyReply.TooShort n ≡ lossyReply.TooShort (needPlace (length (lossy s))) = sym g ∙ simp t at (l .reply) in
+      let z : n ≡ needPlace (length (lossy s)) = cc in
+      record { reply = simp t (ap (λ (p : ℕ). error (record { number = 34; place = p })) z); buffer = simp t (simp t at (l .buffer)) })
+
+-- a call that writes a text keeps the buffer's length
+same-by : (m : Result (List ℕ)) (text text' : List ℕ) → text' ≡ overwritten (λ t. t) (intoText m (length text)) text → length text' ≡ length text
+same-by (error e) text text' w = ap length w
+same-by (ok t) text text' w =
+    either (leb (length t) (length text))
+    (λ h. ap length (simp h at w) ∙ length-front t text (leb-true (length t) (length text) h))
+    (λ h. ap length (simp h at w))
+  where
+    length-front : (t text : List ℕ) → length t ≤ length text → length (t ++ drop (length t) text) ≡ length text
+    length-front t text h = omega (arith, length-append t (drop (length t) text), length-drop (length t) text)
+
+pub text-same : {m : Result (List ℕ)} {text text' : List ℕ} {r : NameReply} → WritesText m text r text' → length text' ≡ length text
+text-same {m} {text} {text'} w = same-by m text text' (w .buffer)
+
+-- the same of a part of the blob
+module _ (b text : List ℕ) {p : Piece} {x : LossyReply} {text' : List ℕ} (i : InBlob b p)
+    (l : WritesLossy (take (p .end - p .start) (drop (p .start) b)) text x text') where
+  whole : WritesLossy (slice (p .start) (p .end) b) text x text'
+  whole = subst (λ (s : List ℕ). WritesLossy s text x text') (part-slice (p .start) (p .end) b (i .order)) l
+
+  pub part-written : {n k : ℕ} → x ≡ lossyReply.Written n k → WritesText (ok (lossy (slice (p .start) (p .end) b))) text (name.Text n) text'
+  part-written g = piece-written (slice (p .start) (p .end) b) text whole g
+
+  pub part-short : {n : ℕ} → x ≡ lossyReply.TooShort n → WritesText (ok (lossy (slice (p .start) (p .end) b))) text (name.Error (OutputTooShort n)) text'
+  part-short g = piece-short (slice (p .start) (p .end) b) text whole g
+
+-- ---- names
+
+module _ (b : List ℕ) (i : ℕ) {x : ParseReply} (e : parseReplyOf x ≡ opened b) where
+  pub name-refused : (text : List ℕ) {f : MatError} → x ≡ parse.Error f → WritesText (nameText b i) text (name.Error f) text
+  unfolding nameText
+  name-refused text {f} g = refused (nameText b i) text f (rw (reply-is parseReplyOf e g))
+
+  module _ {w : FileWrapper} (g : x ≡ parse.Parsed w) where
+    pub name-outside : (text : List ℕ) → w .names < i → WritesText (nameText b i) text (name.Error (NameIndexOutOfRange i)) text
+    unfolding nameText
+    name-outside text h = refused (nameText b i) text (NameIndexOutOfRange i) (rw (reply-is parseReplyOf e g) (simp (lt-leb i (w .names) h)))
+
+    pub has-name : i ≤ w .names → HasName b (w .offsets .o0) i
+    has-name h =
+        let o = parsed b e g in
+        record { heap = o .heap; inside = omega (arith, o); most = omega (arith, o .names) }
+
+    pub in-blob : {end index : ℕ} {p : Piece} → IsName b end index p → InBlob b p
+    in-blob n = record { order = n .order; inside = n .inside; most = parsed b e g .most }
+
+    pub name-written : {text text' : List ℕ} {r : NameReply} {p : Piece} → i ≤ w .names → IsName b (w .offsets .o0) i p
+        → WritesText (ok (lossy (slice (p .start) (p .end) b))) text r text' → WritesText (nameText b i) text r text'
+    unfolding nameText
+    name-written {text} {text'} {r} h n t =
+        let m : nameText b i ≡ ok (lossy (nameBytes b (w .offsets .o0) i)) = rw (reply-is parseReplyOf e g) (simp (le-leb i (w .names) h)) in
+        rw m (rw (n .is) at t)

@@ -1,0 +1,86 @@
+-- The name heap.
+-- Assumes nothing.
+use Prim.Native.Nat.{ℕ, _-_, _≤_}
+use mathlib.Core.Path.{_≡_}
+use mathlib.Core.Bool.{cond}
+use mathlib.Core.List.{List, [], _∷_}
+use lib.Dec.{eqb}
+use lib.ListN.{length, getD}
+use lib.Seq.{slice}
+use Rattle.text.specs.Utf8.{lossy}
+use Rattle.reader.specs.declared.names.Piece.{Piece}
+
+-- one byte before the first piece
+abbrev pub onto : ℕ → List (List ℕ) → List (List ℕ)
+onto x [] = (x ∷ []) ∷ []
+onto x (p ∷ ps) = (x ∷ p) ∷ ps
+
+-- "cut at zero bytes: k zeros give k + 1 pieces"
+unfoldable pub pieces : List ℕ → List (List ℕ)
+pieces [] = [] ∷ []
+pieces (x ∷ xs) = cond (eqb x 0) ([] ∷ pieces xs) (onto x (pieces xs))
+
+-- "The name heap is bytes 40 to offset 0"
+abbrev pub heapOf : List ℕ → ℕ → List ℕ
+heapOf b end = slice 40 end b
+
+-- "Index 0 is the empty name, index i is piece i"
+unfoldable pub nameBytes : List ℕ → ℕ → ℕ → List ℕ
+nameBytes b end i = cond (eqb i 0) [] (getD (pieces (heapOf b end)) (i - 1) [])
+
+-- the name as it is shown: "each maximal ill-formed part becomes EF BF BD"
+abbrev pub shownName : List ℕ → ℕ → ℕ → List ℕ
+shownName b end i = lossy (nameBytes b end i)
+
+-- ---- what the stages that find a name promise each other
+
+-- the heap up to end has piece index, from 1
+pub record HasPiece (b : List ℕ) (end index : ℕ) : Type 0 where
+  pub heap : 40 ≤ end
+  pub inside : end ≤ length b
+  pub least : 1 ≤ index
+  pub most : index ≤ length (pieces (heapOf b end))
+
+-- piece index begins at i
+pub record Starts (b : List ℕ) (end index i : ℕ) : Type 0 where
+  pub inside : i ≤ end
+  pub after : 40 ≤ i
+  pub is : getD (pieces (slice i end b)) 0 [] ≡ getD (pieces (heapOf b end)) (index - 1) []
+
+-- the first piece from start on ends at i
+pub record FirstPiece (b : List ℕ) (start end i : ℕ) : Type 0 where
+  pub order : start ≤ i
+  pub inside : i ≤ end
+  pub is : slice start i b ≡ getD (pieces (slice start end b)) 0 []
+
+-- name index is the empty name or a piece of the heap
+pub record HasName (b : List ℕ) (end index : ℕ) : Type 0 where
+  pub heap : 40 ≤ end
+  pub inside : end ≤ length b
+  pub most : index ≤ length (pieces (heapOf b end))
+
+-- the bytes of a piece
+abbrev pub pieceBytes : List ℕ → Piece → List ℕ
+pieceBytes b p = slice (p .start) (p .end) b
+
+-- the bytes of name index
+pub record IsName (b : List ℕ) (end index : ℕ) (p : Piece) : Type 0 where
+  pub order : p .start ≤ p .end
+  pub inside : p .end ≤ length b
+  pub is : pieceBytes b p ≡ nameBytes b end index
+
+-- a piece lies in the blob, which is short enough for any sum of its bytes
+pub record InBlob (b : List ℕ) (p : Piece) : Type 0 where
+  pub order : p .start ≤ p .end
+  pub inside : p .end ≤ length b
+  pub most : length b ≤ 16777216
+
+-- the repaired length of a piece
+pub record IsLength (b : List ℕ) (p : Piece) (n : ℕ) : Type 0 where
+  pub is : n ≡ length (lossy (pieceBytes b p))
+  pub most : n ≤ 50331648
+
+-- two pieces of a blob
+pub record BothInBlob (b : List ℕ) (p q : Piece) : Type 0 where
+  pub first : InBlob b p
+  pub second : InBlob b q

@@ -1,0 +1,101 @@
+-- Opening a blob: checks 1 to 7.
+-- Assumes nothing.
+use Prim.Native.Nat.{ℕ, _+_, _-_, _*_, _/_, _≤_}
+use mathlib.Core.Path.{_≡_}
+use mathlib.Core.Bool.{Bool}
+use mathlib.Core.List.{List}
+use lib.Dec.{leb}
+use lib.ListN.{length}
+use Rattle.text.specs.Result.{Result, ok, check, checkEach, _>>_, _>>=_}
+use Rattle.reader.specs.Blocks.{blocks}
+use Rattle.reader.specs.Names.{pieces, heapOf}
+use Rattle.reader.specs.Wire.{u32At}
+use Rattle.reader.specs.declared.file_wrapper.FileWrapper.{FileWrapper}
+use Rattle.reader.specs.declared.file_wrapper.Offsets.{Offsets}
+
+-- "at 4 the number of names"
+abbrev pub declaredNames : List ℕ → ℕ
+declaredNames b = u32At b 4
+
+-- "at 8 to 39 eight offsets"
+abbrev pub offset : List ℕ → ℕ → ℕ
+offset b k = u32At b (8 + 4 * k)
+
+abbrev pub offsets : List ℕ → Offsets
+offsets b = record {
+  o0 = offset b 0;
+  o1 = offset b 1;
+  o2 = offset b 2;
+  o3 = offset b 3;
+  o4 = offset b 4;
+  o5 = offset b 5;
+  o6 = offset b 6;
+  o7 = offset b 7;
+}
+
+-- 3: offset k lies within the blob
+abbrev pub isWithin : List ℕ → ℕ → Bool
+isWithin b k = leb (offset b k) (length b)
+
+-- 5: offset k is not below the one before it
+abbrev pub isOrdered : List ℕ → ℕ → Bool
+isOrdered b k = leb (offset b (k - 1)) (offset b k)
+
+-- 6: the pieces that the name heap has
+abbrev pub pieceCount : List ℕ → ℕ
+pieceCount b = length (pieces (heapOf b (offset b 0)))
+
+-- what opening gives: the declared names, the class entries and object records that are whole, the blocks of both regions, and the offsets
+abbrev pub fileWrapper : List ℕ → ℕ → ℕ → FileWrapper
+fileWrapper b saved normal = record {
+  names = declaredNames b;
+  classes = (offset b 1 - offset b 0) / 16;
+  records = (offset b 3 - offset b 2) / 24;
+  «saveobj_blocks» = saved;
+  «normalobj_blocks» = normal;
+  offsets = offsets b;
+}
+
+-- 6 and 7
+unfoldable pub regions : List ℕ → Result FileWrapper
+regions b = do
+  check 6 (leb (declaredNames b) (pieceCount b)) (pieceCount b)
+  saved ← blocks 12 b (offset b 1) (offset b 2)
+  normal ← blocks 12 b (offset b 3) (offset b 4)
+  ok (fileWrapper b saved normal)
+
+unfoldable pub opened : List ℕ → Result FileWrapper
+opened b = do
+  check 1 (leb (length b) 16777216) (length b)
+  check 2 (leb 40 (length b)) (length b)
+  checkEach 3 (isWithin b) 0 8
+  check 4 (leb 40 (offset b 0)) 0
+  checkEach 5 (isOrdered b) 1 8
+  regions b
+
+-- checks 1 to 5 hold: the offsets are in order and inside the blob
+pub record Ordered (b : List ℕ) (o : Offsets) : Type 0 where
+  pub is : o ≡ offsets b
+  pub least : 40 ≤ length b
+  pub most : length b ≤ 16777216
+  pub heap : 40 ≤ o .o0
+  pub classes : o .o0 ≤ o .o1
+  pub saveobj : o .o1 ≤ o .o2
+  pub records : o .o2 ≤ o .o3
+  pub normalobj : o .o3 ≤ o .o4
+  pub inside : o .o4 ≤ length b
+
+-- what an opened blob promises the later stages: its regions lie inside it and in order, every declared name has its piece, and what was
+-- counted is whole
+pub record Opens (b : List ℕ) (w : FileWrapper) : Type 0 where
+  pub is : opened b ≡ ok w
+  pub most : length b ≤ 16777216
+  pub names : w .names ≤ length (pieces (heapOf b (w .offsets .o0)))
+  pub heap : 40 ≤ w .offsets .o0
+  pub classes : w .offsets .o0 ≤ w .offsets .o1
+  pub saveobj : w .offsets .o1 ≤ w .offsets .o2
+  pub records : w .offsets .o2 ≤ w .offsets .o3
+  pub normalobj : w .offsets .o3 ≤ w .offsets .o4
+  pub inside : w .offsets .o4 ≤ length b
+  pub class-entries : w .classes ≡ (w .offsets .o1 - w .offsets .o0) / 16
+  pub object-records : w .records ≡ (w .offsets .o3 - w .offsets .o2) / 24

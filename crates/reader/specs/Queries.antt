@@ -1,0 +1,80 @@
+-- Queries on an opened blob, each as its checks in sequence.
+-- Assumes nothing.
+use Prim.Native.Nat.{ℕ, _+_, _*_}
+use mathlib.Core.Bool.{cond}
+use mathlib.Core.List.{List, _∷_, _++_}
+use lib.Dec.{leb, ltb, eqb}
+use lib.ListN.{length}
+use Rattle.text.specs.Result.{Result, ok, check, checkOutput, _>>_, _>>=_}
+use Rattle.reader.specs.Names.{shownName}
+use Rattle.reader.specs.Opening.{opened}
+use Rattle.reader.specs.Wire.{classEntryAt, objectRecordAt}
+use Rattle.reader.specs.declared.file_wrapper.FileWrapper.{FileWrapper}
+use Rattle.reader.specs.declared.records.ClassEntry.{ClassEntry}
+use Rattle.reader.specs.declared.records.ObjectRecord.{ObjectRecord}
+
+-- "Called alone, each ends with 34": a text for an output of `room` bytes
+abbrev pub intoText : Result (List ℕ) → ℕ → Result (List ℕ)
+intoText m room = do
+  text ← m
+  checkOutput (length text) room
+  ok text
+
+-- 11: "Is the name index at most the number of names? Place: index."
+abbrev pub checkName : FileWrapper → ℕ → Result (Unit {0})
+checkName w i = check 11 (leb i (w .names)) i
+
+abbrev pub shown : List ℕ → FileWrapper → ℕ → List ℕ
+shown b w i = shownName b (w .offsets .o0) i
+
+-- "Name: 1–7, 11"
+unfoldable pub nameText : List ℕ → ℕ → Result (List ℕ)
+nameText b i = do
+  w ← opened b
+  checkName w i
+  ok (shown b w i)
+
+-- "A class entry is 16 bytes"
+abbrev pub classEntry : List ℕ → FileWrapper → ℕ → ClassEntry
+classEntry b w c = classEntryAt b (w .offsets .o0 + 16 * c)
+
+-- "shown as namespace, full stop, name if the namespace index is not 0"
+abbrev pub shownClass : List ℕ → FileWrapper → ClassEntry → List ℕ
+shownClass b w e =
+    cond (eqb (e .«namespace_idx») 0) (shown b w (e .«name_idx»)) (shown b w (e .«namespace_idx») ++ 0x2E ∷ shown b w (e .«name_idx»))
+
+-- "11 for the name, 11 for the namespace"
+unfoldable pub entryText : List ℕ → FileWrapper → ClassEntry → Result (List ℕ)
+entryText b w e = do
+  checkName w (e .«name_idx»)
+  checkName w (e .«namespace_idx»)
+  ok (shownClass b w e)
+
+-- 9: "Is the class id below the class entries? Place: class id."
+unfoldable pub classOf : List ℕ → FileWrapper → ℕ → Result (List ℕ)
+classOf b w c = do
+  check 9 (ltb c (w .classes)) c
+  entryText b w (classEntry b w c)
+
+-- a class by its id: 1–7, 9, 11, 11
+unfoldable pub classText : List ℕ → ℕ → Result (List ℕ)
+classText b c = do
+  w ← opened b
+  classOf b w c
+
+-- "an object record 24"
+abbrev pub objectRecord : List ℕ → FileWrapper → ℕ → ObjectRecord
+objectRecord b w id = objectRecordAt b (w .offsets .o2 + 24 * id)
+
+-- 8: "Is the id from 1 to records − 1? Place: id."
+unfoldable pub checkObject : FileWrapper → ℕ → Result (Unit {0})
+checkObject w id = do
+  check 8 (leb 1 id) id
+  check 8 (ltb id (w .records)) id
+
+-- "Class: 1–7, 8, 9, 11 for the name, 11 for the namespace"
+unfoldable pub objectClassText : List ℕ → ℕ → Result (List ℕ)
+objectClassText b id = do
+  w ← opened b
+  checkObject w id
+  classOf b w (objectRecord b w id .«class_id»)

@@ -1,0 +1,41 @@
+-- What the replies of the code say, and what the calls promise of replies and output buffers.
+-- Assumes nothing.
+use Prim.Native.Nat.{ℕ}
+use mathlib.Core.Path.{_≡_}
+use mathlib.Core.List.{List}
+use lib.ListN.{length}
+use Rattle.text.specs.Errors.{failureOf}
+use Rattle.text.specs.Result.{Result, ok, error, mapResult, overwritten}
+use Rattle.reader.specs.Queries.{intoText}
+use Rattle.reader.specs.declared.file_wrapper.FileWrapper.{FileWrapper}
+use Rattle.reader.specs.declared.file_wrapper.ParseReply.{ParseReply}
+use Rattle.reader.specs.declared.file_wrapper.ParseReply.the-variants as parse
+use Rattle.reader.specs.declared.file_wrapper.Checked.{Checked}
+use Rattle.reader.specs.declared.file_wrapper.Checked.the-variants as checked
+use Rattle.reader.specs.declared.blocks.BlockCount.{BlockCount}
+use Rattle.reader.specs.declared.blocks.BlockCount.the-variants as count
+use Rattle.reader.specs.declared.names.NameReply.{NameReply}
+use Rattle.reader.specs.declared.names.NameReply.the-variants as name
+
+abbrev pub parseReplyOf : ParseReply → Result FileWrapper
+parseReplyOf (parse.Parsed w) = ok w
+parseReplyOf (parse.Error e) = error (failureOf e)
+
+abbrev pub checkedOf : Checked → Result (Unit {0})
+checkedOf checked.Passed = ok tt
+checkedOf (checked.Failed e) = error (failureOf e)
+
+-- the blocks of a region, or 7
+abbrev pub blockCountOf : BlockCount → Result ℕ
+blockCountOf (count.Blocks n) = ok n
+blockCountOf (count.Truncated i) = error (record { number = 7; place = i })
+
+-- a text's length in bytes, or the refusal
+abbrev pub nameReplyOf : NameReply → Result ℕ
+nameReplyOf (name.Text n) = ok n
+nameReplyOf (name.Error e) = error (failureOf e)
+
+-- a call that writes the text that a query comes to
+pub record WritesText (m : Result (List ℕ)) (text : List ℕ) (r : NameReply) (text' : List ℕ) : Type 0 where
+  pub reply : nameReplyOf r ≡ mapResult length (intoText m (length text))
+  pub buffer : text' ≡ overwritten (λ t. t) (intoText m (length text)) text

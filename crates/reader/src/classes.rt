@@ -1,0 +1,125 @@
+// The classes of a metadata blob.
+use crate::file_wrapper::FileWrapper;
+use crate::file_wrapper::ParseReply;
+use crate::names::NameReply;
+use crate::names::Piece;
+use crate::names::name_piece;
+use crate::names::write_piece;
+use crate::records::ClassEntry;
+use crate::records::ObjectRecord;
+use text::error::MatError;
+use text::utf8::LossyLength;
+use text::utf8::lossy_length;
+use text::utf8::put_lossy;
+ghost use mathlib.Core.List.{_∷_, _++_};
+ghost use Prim.Native.Nat.{_≤_, _+_};
+ghost use lib.ListN.{length};
+ghost use Rattle.text.specs.Buffer.{Puts};
+ghost use Rattle.text.specs.Result.{ok};
+ghost use Rattle.text.specs.Utf8.{lossy};
+ghost use Rattle.reader.specs.Names.{pieceBytes, InBlob, IsLength, BothInBlob};
+ghost use Rattle.reader.specs.Opening.{Opens};
+ghost use Rattle.reader.specs.Queries.{entryText, classOf, classText, objectClassText};
+ghost use Rattle.reader.specs.Replies.{WritesText};
+
+// The repaired length of a piece.
+fn piece_length(blob: &[u8], piece: Piece) -> usize
+    requires { ⌜ InBlob (now blob) piece ⌝ }
+    ensures { λ r. ⌜ IsLength (now (blob .entry)) piece r ⌝ }
+{
+    let start = piece.start;
+    let end = piece.end;
+    match lossy_length(&blob[start..end]) {
+        LossyLength::Length { bytes, replaced: _ } => bytes,
+        LossyLength::TooLong => 0,
+    }
+}
+
+// The repaired bytes of a piece in text from index at on.
+fn put_piece(blob: &[u8], piece: Piece, text: &mut [u8], at: usize) -> usize
+    requires { ⌜ InBlob (now blob) piece × (at + length (lossy (pieceBytes (now blob) piece)) ≤ length (now text)) ⌝ }
+    ensures { λ r. ⌜ Puts (now (text .entry)) at (lossy (pieceBytes (now (blob .entry)) piece)) r (now (text .exit)) ⌝ }
+{
+    let start = piece.start;
+    let end = piece.end;
+    put_lossy(&blob[start..end], text, at)
+}
+
+// Namespace, full stop, name.
+fn write_joined(blob: &[u8], namespace: Piece, name: Piece, text: &mut [u8]) -> NameReply
+    requires { ⌜ BothInBlob (now blob) «namespace» name ⌝ }
+    ensures { λ r. ⌜ WritesText (ok (lossy (pieceBytes (now (blob .entry)) «namespace») ++ 0x2E ∷ lossy (pieceBytes (now (blob .entry)) name))) (now (text .entry)) r (now (text .exit)) ⌝ }
+{
+    let stop = piece_length(blob, namespace);
+    let need = stop + 1 + piece_length(blob, name);
+    if text.len() < need {
+        return NameReply::Error(MatError::OutputTooShort(need as u64));
+    }
+    put_piece(blob, namespace, text, 0);
+    text[stop] = b'.';
+    put_piece(blob, name, text, stop + 1);
+    NameReply::Text(need)
+}
+
+// The text of a class entry: check 11 for its name and its namespace.
+fn write_entry(blob: &[u8], w: FileWrapper, entry: ClassEntry, text: &mut [u8]) -> NameReply
+    requires { ⌜ Opens (now blob) w ⌝ }
+    ensures { λ r. ⌜ WritesText (entryText (now (blob .entry)) w entry) (now (text .entry)) r (now (text .exit)) ⌝ }
+{
+    if w.names < entry.name_idx {
+        return NameReply::Error(MatError::NameIndexOutOfRange(entry.name_idx as u64));
+    }
+    if w.names < entry.namespace_idx {
+        return NameReply::Error(MatError::NameIndexOutOfRange(entry.namespace_idx as u64));
+    }
+    let name = name_piece(blob, w.offsets.o0, entry.name_idx as usize);
+    if entry.namespace_idx == 0 {
+        return write_piece(blob, name, text);
+    }
+    let namespace = name_piece(blob, w.offsets.o0, entry.namespace_idx as usize);
+    write_joined(blob, namespace, name, text)
+}
+
+// The text of a class of an opened blob: check 9, then those of its entry.
+fn write_class(blob: &[u8], w: FileWrapper, class_id: u32, text: &mut [u8]) -> NameReply
+    requires { ⌜ Opens (now blob) w ⌝ }
+    ensures { λ r. ⌜ WritesText (classOf (now (blob .entry)) w «class_id») (now (text .entry)) r (now (text .exit)) ⌝ }
+{
+    if w.classes <= class_id as usize {
+        return NameReply::Error(MatError::ClassIdOutOfRange(class_id as u64));
+    }
+    let entry = ClassEntry::read(blob, w.offsets.o0 + ClassEntry::SIZE * class_id as usize);
+    write_entry(blob, w, entry, text)
+}
+
+// The class of an id, as it is shown, at the start of text.
+pub fn class_name(blob: &[u8], class_id: u32, text: &mut [u8]) -> NameReply
+    ensures { λ r. ⌜ WritesText (classText (now (blob .entry)) «class_id») (now (text .entry)) r (now (text .exit)) ⌝ }
+{
+    match FileWrapper::parse(blob) {
+        ParseReply::Parsed(w) => write_class(blob, w, class_id, text),
+        ParseReply::Error(e) => NameReply::Error(e),
+    }
+}
+
+// The class of an object, as it is shown, at the start of text.
+pub fn object_class_name(blob: &[u8], object_id: u32, text: &mut [u8]) -> NameReply
+    ensures { λ r. ⌜ WritesText (objectClassText (now (blob .entry)) «object_id») (now (text .entry)) r (now (text .exit)) ⌝ }
+{
+    match FileWrapper::parse(blob) {
+        ParseReply::Parsed(w) => {
+            if object_id == 0 {
+                return NameReply::Error(MatError::ObjectIdOutOfRange(0));
+            }
+            if w.records <= object_id as usize {
+                return NameReply::Error(MatError::ObjectIdOutOfRange(object_id as u64));
+            }
+            let record = ObjectRecord::read(
+                blob,
+                w.offsets.o2 + ObjectRecord::SIZE * object_id as usize,
+            );
+            write_class(blob, w, record.class_id, text)
+        }
+        ParseReply::Error(e) => NameReply::Error(e),
+    }
+}

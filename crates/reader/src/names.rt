@@ -1,0 +1,123 @@
+// The name heap: pieces of bytes, cut at zero bytes.
+use crate::file_wrapper::FileWrapper;
+use crate::file_wrapper::ParseReply;
+use text::error::MatError;
+use text::utf8::LossyReply;
+use text::utf8::write_lossy;
+ghost use mathlib.Core.Path.{_≡_};
+ghost use Prim.Native.Nat.{_≤_};
+ghost use lib.ListN.{length};
+ghost use lib.Seq.{slice};
+ghost use Rattle.text.specs.Result.{ok};
+ghost use Rattle.text.specs.Utf8.{lossy};
+ghost use Rattle.reader.specs.Names.{pieces, HasPiece, Starts, FirstPiece, HasName, IsName, pieceBytes, InBlob};
+ghost use Rattle.reader.specs.Queries.{nameText};
+ghost use Rattle.reader.specs.Replies.{WritesText};
+
+// The number of pieces of the bytes from start up to end: the zero bytes, and one more.
+pub(crate) fn count_pieces(blob: &[u8], start: usize, end: usize) -> usize
+    requires { ⌜ (start ≤ end) × (end ≤ length (now blob)) ⌝ }
+    ensures { λ r. ⌜ r ≡ length (pieces (slice start end (now (blob .entry)))) ⌝ }
+{
+    let mut n: usize = 1;
+    let mut i = start;
+    while i < end {
+        if blob[i] == 0 {
+            n += 1;
+            i += 1;
+            continue;
+        }
+        i += 1;
+    }
+    n
+}
+
+// Where a name's bytes begin and end in the blob.
+pub(crate) struct Piece {
+    pub(crate) start: usize,
+    pub(crate) end: usize,
+}
+
+// Where piece index, from 1, of the bytes from byte 40 up to end begins.
+fn piece_start(blob: &[u8], end: usize, index: usize) -> usize
+    requires { ⌜ HasPiece (now blob) end index ⌝ }
+    ensures { λ r. ⌜ Starts (now (blob .entry)) end index r ⌝ }
+{
+    let mut k: usize = 1;
+    let mut i: usize = 40;
+    while k < index {
+        if blob[i] == 0 {
+            k += 1;
+            i += 1;
+            continue;
+        }
+        i += 1;
+    }
+    i
+}
+
+// Where the piece that begins at start ends: at the first zero byte, or at the end of the heap.
+fn piece_end(blob: &[u8], start: usize, end: usize) -> usize
+    requires { ⌜ (start ≤ end) × (end ≤ length (now blob)) ⌝ }
+    ensures { λ r. ⌜ FirstPiece (now (blob .entry)) start end r ⌝ }
+{
+    let mut i = start;
+    while i < end {
+        if blob[i] == 0 {
+            return i;
+        }
+        i += 1;
+    }
+    i
+}
+
+// The bytes of a name that is declared: none for index 0, else piece index.
+pub(crate) fn name_piece(blob: &[u8], end: usize, index: usize) -> Piece
+    requires { ⌜ HasName (now blob) end index ⌝ }
+    ensures { λ r. ⌜ IsName (now (blob .entry)) end index r ⌝ }
+{
+    if index == 0 {
+        return Piece { start: 40, end: 40 };
+    }
+    let start = piece_start(blob, end, index);
+    Piece {
+        start,
+        end: piece_end(blob, start, end),
+    }
+}
+
+// The length in bytes of a text that was written, or the refusal.
+pub enum NameReply {
+    Text(usize),
+    Error(MatError),
+}
+
+// The name of an index, repaired, at the start of text.
+pub fn name(blob: &[u8], index: u32, text: &mut [u8]) -> NameReply
+    ensures { λ r. ⌜ WritesText (nameText (now (blob .entry)) index) (now (text .entry)) r (now (text .exit)) ⌝ }
+{
+    match FileWrapper::parse(blob) {
+        ParseReply::Parsed(w) => {
+            if w.names < index {
+                return NameReply::Error(MatError::NameIndexOutOfRange(index as u64));
+            }
+            let heap_end = w.offsets.o0;
+            let piece = name_piece(blob, heap_end, index as usize);
+            write_piece(blob, piece, text)
+        }
+        ParseReply::Error(e) => NameReply::Error(e),
+    }
+}
+
+// The bytes of a piece, repaired, at the start of text.
+pub(crate) fn write_piece(blob: &[u8], piece: Piece, text: &mut [u8]) -> NameReply
+    requires { ⌜ InBlob (now blob) piece ⌝ }
+    ensures { λ r. ⌜ WritesText (ok (lossy (pieceBytes (now (blob .entry)) piece))) (now (text .entry)) r (now (text .exit)) ⌝ }
+{
+    let start = piece.start;
+    let end = piece.end;
+    match write_lossy(&blob[start..end], text) {
+        LossyReply::Written { bytes, replaced: _ } => NameReply::Text(bytes),
+        LossyReply::TooShort(need) => NameReply::Error(MatError::OutputTooShort(need as u64)),
+    }
+}
