@@ -1,5 +1,6 @@
 pub mod ArrayLaws
 pub mod FileWrapperLaws
+pub mod LayoutLaws
 pub mod MeasureLaws
 pub mod PackLaws
 pub mod PayloadLaws

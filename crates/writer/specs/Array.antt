@@ -59,3 +59,11 @@ encodePayload dims text spans room = do
   a ← arrayOf dims text spans
   checkOutput (length (payload a)) room
   ok (payload a)
+
+-- "payloads end to end from word 0": the payloads of arrays, and their spans from word o on
+unfoldable pub payloads : List Array → List ℕ
+payloads xs = flatMap payload xs
+
+unfoldable pub payloadSpans : ℕ → List Array → List ℕ
+payloadSpans o [] = []
+payloadSpans o (a ∷ xs) = o ∷ length (payload a) ∷ payloadSpans (o + length (payload a)) xs
