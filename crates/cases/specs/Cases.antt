@@ -1,18 +1,22 @@
 -- Document 01's starred cases: one table with one proof. A case is what a definition comes to and what the document says it comes to.
 -- Assumes nothing.
-use Prim.Native.Nat.{ℕ}
+use Prim.Native.Nat.{ℕ, _-_, _^_}
 use mathlib.Core.Path.{_≡_, refl}
 use mathlib.Core.List.{List, [], _∷_, map, flatMap}
 use mathlib.Core.Option.{Option}
 use lib.ListN.{length, take, drop}
-use Rattle.text.specs.Result.{Result, ok, error, mapResult, orError, foldCount, foldRange}
+use Rattle.text.specs.Result.{Result, ok, error, mapResult, orError, checkCount, checkEach, foldCount, foldRange}
 use Rattle.text.specs.Unicode.{utf8, utf16}
+use Rattle.text.specs.Utf16.{scalars16}
 use Rattle.text.specs.Utf8.{table, find, sequenceLength, secondRange, hasIn, matched, valueAt, wholeAt, nextAt, stepAt, partsCount, partsFrom, scalarsOf, repaired, scalars8, lossy, unitsOf}
+use Rattle.reader.specs.Saveobj.{dimsProduct, unitCount, unitsBefore, storedStrings, checkDims, checkHeader, checkSum, checkLengths, checkStrings, decodePayload}
+use Rattle.reader.specs.Units.{unitAt, unitsIn}
 use Rattle.reader.specs.Opaque.{checkDimension, opaqueMetadata}
 use Rattle.reader.specs.declared.opaque.OpaqueMetadata.{OpaqueMetadata}
 use Rattle.writer.specs.Array.{stringWords, payload, checkProduct, checkShape, arrayOf, encodePayload}
 use Rattle.writer.specs.FileWrapper.{u32s, entriesFrom, region, regions, offsetsFrom, fileWrapper, buildMetadata}
-use Rattle.writer.specs.Spans.{stringsFrom, checkString, checkStrings}
+use Rattle.writer.specs.Spans.{stringsFrom, checkString}
+use Rattle.writer.specs.Spans as spans
 use Rattle.writer.specs.Words.{value, packed}
 
 pub record Case : Type 0 where
@@ -33,6 +37,10 @@ refusal n p = error (record { number = n; place = p })
 abbrev listed : OpaqueMetadata → List ℕ
 listed m = m .«first_id» ∷ m .ids ∷ m .«class_id» ∷ []
 
+-- the strings of a payload, each as its length and its bytes
+abbrev decoded : List ℕ → Result (List ℕ)
+decoded w = mapResult (λ ss. flatMap (λ s. length s ∷ s) ss) (decodePayload w)
+
 -- 01's "A€" with dimensions 1, 1, as it is lent: a text and one span
 abbrev ascii-euro : List ℕ
 ascii-euro = 0x41 ∷ 0xE2 ∷ 0x82 ∷ 0xAC ∷ []
@@ -48,6 +56,15 @@ starred =
     ∷ comes (mapResult (λ b. take 32 (drop 8 b)) (buildMetadata 2 240)) (ok (u32s (56 ∷ 88 ∷ 128 ∷ 200 ∷ 208 ∷ 232 ∷ 232 ∷ 240 ∷ [])))
     -- "A€" with dimensions 1, 1: 1, 2, 1, 1, 2, 20AC0041
     ∷ comes (encodePayload (1 ∷ 1 ∷ []) ascii-euro (0 ∷ 4 ∷ []) 6) (ok (1 ∷ 2 ∷ 1 ∷ 1 ∷ 2 ∷ 0x20AC0041 ∷ []))
+    -- payload 1, 0, 0: one empty string; 1, 1, 0: no strings; 1, 1, 1, 2^64 − 1: one empty string
+    ∷ comes (decoded (1 ∷ 0 ∷ 0 ∷ [])) (ok (0 ∷ []))
+    ∷ comes (decoded (1 ∷ 1 ∷ 0 ∷ [])) (ok [])
+    ∷ comes (decoded (1 ∷ 1 ∷ 1 ∷ (2 ^ 64 - 1) ∷ [])) (ok (0 ∷ []))
+    -- 1, 1, 1, 1, D800: 29, place 0; 1, 1, 1, 5, 0: 28, place 5
+    ∷ comes (decoded (1 ∷ 1 ∷ 1 ∷ 1 ∷ 0xD800 ∷ [])) (refusal 29 0)
+    ∷ comes (decoded (1 ∷ 1 ∷ 1 ∷ 5 ∷ 0 ∷ [])) (refusal 28 5)
+    -- the payload of "A€" read back
+    ∷ comes (decoded (1 ∷ 2 ∷ 1 ∷ 1 ∷ 2 ∷ 0x20AC0041 ∷ [])) (ok (4 ∷ ascii-euro))
     -- word list magic, 0, 7, 1: id 7
     ∷ comes (mapResult listed (opaqueMetadata (0xDD000000 ∷ 0 ∷ 7 ∷ 1 ∷ []))) (ok (2 ∷ 1 ∷ 1 ∷ []))
     -- magic, 4, three times 4294967295, 0, 1: 20; with the 0 put first: accepted, no ids
@@ -64,5 +81,5 @@ starred =
     ∷ []
 
 pub starred-hold : map (λ c. c .computed) starred ≡ map (λ c. c .expected) starred
-unfolding starred flatMap foldRange foldCount opaqueMetadata checkDimension buildMetadata fileWrapper offsetsFrom regions region entriesFrom u32s encodePayload arrayOf checkShape checkProduct checkStrings checkString stringsFrom payload stringWords packed value utf8 utf16 scalarsOf repaired partsFrom partsCount stepAt wholeAt nextAt valueAt matched hasIn sequenceLength secondRange find table
+unfolding starred flatMap foldRange foldCount decodePayload checkHeader checkDims checkLengths checkSum checkStrings checkEach checkCount dimsProduct unitCount unitsBefore storedStrings unitsIn unitAt scalars16 opaqueMetadata checkDimension buildMetadata fileWrapper offsetsFrom regions region entriesFrom u32s encodePayload arrayOf checkShape checkProduct spans.checkStrings checkString stringsFrom payload stringWords packed value utf8 utf16 scalarsOf repaired partsFrom partsCount stepAt wholeAt nextAt valueAt matched hasIn sequenceLength secondRange find table
 starred-hold = refl

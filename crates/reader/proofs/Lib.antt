@@ -1,6 +1,14 @@
 pub mod BlockLaws
 pub mod ClassLaws
+pub mod HeaderLaws
+pub mod LengthLaws
 pub mod NameLaws
 pub mod OpaqueLaws
 pub mod OpeningLaws
+pub mod PackedLaws
+pub mod PayloadLaws
 pub mod PieceLaws
+pub mod RoundTrip
+pub mod StringLaws
+pub mod TextLaws
+pub mod UnitLaws

@@ -4,5 +4,8 @@ pub mod Opaque
 pub mod Opening
 pub mod Queries
 pub mod Replies
+pub mod Saveobj
+pub mod SaveobjStages
 pub mod Stages
+pub mod Units
 pub mod Wire

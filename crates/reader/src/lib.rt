@@ -5,3 +5,5 @@ pub mod file_wrapper;
 pub mod names;
 pub mod opaque;
 mod records;
+pub mod saveobj;
+mod units;

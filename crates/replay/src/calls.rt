@@ -2,6 +2,12 @@
 use crate::fields;
 use crate::fields::Number;
 use crate::render;
+use reader::classes::object_class_name;
+use reader::file_wrapper::FileWrapper;
+use reader::file_wrapper::ParseReply;
+use reader::names::NameReply;
+use reader::opaque::OpaqueReply;
+use reader::opaque::parse_opaque_metadata;
 use text::error::MatError;
 use text::utf8::LossyReply;
 use text::utf16::TextReply;
@@ -127,4 +133,89 @@ pub fn build(line: &[u8]) -> Verdict {
         LengthReply::Error(error) => render::refusal(error, render::is_untouched(blob, 0), answer),
     };
     compare(line, 3, answer, n)
+}
+
+// open BLOB
+pub fn open(line: &[u8]) -> Verdict {
+    let blob: &mut [u8] = &mut io::buffer();
+    let answer: &mut [u8] = &mut io::buffer();
+    let Number::Value(bytes) = fields::bytes(fields::field(line, 1), blob) else {
+        return Verdict::Unreadable;
+    };
+    let n = match FileWrapper::parse(fields::part(blob, 0, bytes)) {
+        ParseReply::Parsed(w) => {
+            render::numbers(w.names as u64, w.classes as u64, w.records as u64, answer)
+        }
+        ParseReply::Error(error) => render::refusal(error, true, answer),
+    };
+    compare(line, 2, answer, n)
+}
+
+// The class of an object, or the name of an index.
+fn write_text(blob: &[u8], is_class: bool, number: u32, text: &mut [u8]) -> NameReply {
+    if is_class {
+        return object_class_name(blob, number, text);
+    }
+    reader::names::name(blob, number, text)
+}
+
+// The calls name and class, which differ only in whose text they ask for.
+fn name_or_class(line: &[u8], is_class: bool) -> Verdict {
+    let blob: &mut [u8] = &mut io::buffer();
+    let text: &mut [u8] = &mut io::buffer();
+    let answer: &mut [u8] = &mut io::buffer();
+    let Number::Value(bytes) = fields::bytes(fields::field(line, 1), blob) else {
+        return Verdict::Unreadable;
+    };
+    let Number::Value(number) = fields::decimal(fields::field(line, 2)) else {
+        return Verdict::Unreadable;
+    };
+    let Number::Value(length) = fields::decimal(fields::field(line, 3)) else {
+        return Verdict::Unreadable;
+    };
+    if text.len() < length {
+        return Verdict::Unreadable;
+    }
+    if 0xFFFF_FFFF < number {
+        return Verdict::Unreadable;
+    }
+    let n = match write_text(
+        fields::part(blob, 0, bytes),
+        is_class,
+        number as u32,
+        &mut text[0..length],
+    ) {
+        NameReply::Text(count) => render::text(text, count, answer),
+        NameReply::Error(error) => render::refusal(error, render::is_untouched(text, 0), answer),
+    };
+    compare(line, 4, answer, n)
+}
+
+// name BLOB index text-length
+pub fn name(line: &[u8]) -> Verdict {
+    name_or_class(line, false)
+}
+
+// class BLOB id text-length
+pub fn class(line: &[u8]) -> Verdict {
+    name_or_class(line, true)
+}
+
+// wordlist WORDS32
+pub fn wordlist(line: &[u8]) -> Verdict {
+    let words: &mut [u32] = &mut fields::words32_buffer();
+    let answer: &mut [u8] = &mut io::buffer();
+    let Number::Value(count) = fields::words32(fields::field(line, 1), words) else {
+        return Verdict::Unreadable;
+    };
+    let n = match parse_opaque_metadata(fields::first_words32(words, count)) {
+        OpaqueReply::Parsed(list) => render::numbers(
+            list.first_id as u64,
+            list.ids as u64,
+            list.class_id as u64,
+            answer,
+        ),
+        OpaqueReply::Error(error) => render::refusal(error, true, answer),
+    };
+    compare(line, 2, answer, n)
 }

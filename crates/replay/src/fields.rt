@@ -40,6 +40,12 @@ pub fn units_buffer() -> [u16; 4096]
     [0; 4096]
 }
 
+pub fn words32_buffer() -> [u32; 4096]
+    ensures { λ r. ⌜ 4096 ≡ length r ⌝ }
+{
+    [0; 4096]
+}
+
 pub fn words_buffer() -> [u64; 4096]
     ensures { λ r. ⌜ 4096 ≡ length r ⌝ }
 {
@@ -52,6 +58,13 @@ pub fn first_units(units: &[u16], n: usize) -> &[u16] {
         return &units[0..n];
     }
     &units[0..0]
+}
+
+pub fn first_words32(words: &[u32], n: usize) -> &[u32] {
+    if n <= words.len() {
+        return &words[0..n];
+    }
+    &words[0..0]
 }
 
 pub fn first_words(words: &[u64], n: usize) -> &[u64] {
@@ -189,7 +202,32 @@ pub fn units(field: &[u8], out: &mut [u16]) -> Number {
     Number::Unreadable
 }
 
-// Words, in the same form.
+// Words of 32 bits, in the same form.
+pub fn words32(field: &[u8], out: &mut [u32]) -> Number {
+    if same(field, b"-") {
+        return Number::Value(0);
+    }
+    let mut start = 0;
+    let mut n = 0;
+    while n < out.len() {
+        let end = find(field, start, b',');
+        let Number::Value(word) = value_of(part(field, start, end), 16) else {
+            return Number::Unreadable;
+        };
+        if 0xFFFF_FFFF < word {
+            return Number::Unreadable;
+        }
+        out[n] = word as u32;
+        n += 1;
+        if end == field.len() {
+            return Number::Value(n);
+        }
+        start = end + 1;
+    }
+    Number::Unreadable
+}
+
+// Words of 64 bits, in the same form.
 pub fn words(field: &[u8], out: &mut [u64]) -> Number {
     if same(field, b"-") {
         return Number::Value(0);

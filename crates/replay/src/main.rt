@@ -16,9 +16,17 @@ const WRITE: usize = 2;
 
 const BUILD: usize = 3;
 
-const OTHER: usize = 4;
+const OPEN: usize = 4;
 
-const KINDS: usize = 5;
+const NAME: usize = 5;
+
+const CLASS: usize = 6;
+
+const WORDLIST: usize = 7;
+
+const OTHER: usize = 8;
+
+const KINDS: usize = 9;
 
 // The longest line. No answer is longer than its line, so the calls have buffers of as many elements.
 const LINE: usize = 4096;
@@ -35,6 +43,18 @@ fn call_of(name: &[u8]) -> usize {
     }
     if fields::same(name, b"build") {
         return BUILD;
+    }
+    if fields::same(name, b"open") {
+        return OPEN;
+    }
+    if fields::same(name, b"name") {
+        return NAME;
+    }
+    if fields::same(name, b"class") {
+        return CLASS;
+    }
+    if fields::same(name, b"wordlist") {
+        return WORDLIST;
     }
     OTHER
 }
@@ -61,6 +81,10 @@ fn replay(line: &[u8], seen: &mut [u64; KINDS], agreed: &mut [u64; KINDS]) {
         LOSSY => calls::lossy(line),
         WRITE => calls::write(line),
         BUILD => calls::build(line),
+        OPEN => calls::open(line),
+        NAME => calls::name(line),
+        CLASS => calls::class(line),
+        WORDLIST => calls::wordlist(line),
         _ => Verdict::Unknown,
     };
     count(seen, call);
@@ -168,6 +192,10 @@ fn main() {
     print_total(b"lossy ", agreed[LOSSY], seen[LOSSY]);
     print_total(b"write ", agreed[WRITE], seen[WRITE]);
     print_total(b"build ", agreed[BUILD], seen[BUILD]);
+    print_total(b"open ", agreed[OPEN], seen[OPEN]);
+    print_total(b"name ", agreed[NAME], seen[NAME]);
+    print_total(b"class ", agreed[CLASS], seen[CLASS]);
+    print_total(b"wordlist ", agreed[WORDLIST], seen[WORDLIST]);
     io::write_all(STDOUT_FILENO, b"other ");
     io::print_decimal(STDOUT_FILENO, seen[OTHER]);
     io::write_all(STDOUT_FILENO, b"\n");

@@ -103,6 +103,16 @@ pub fn payload(buffer: &[u64], n: usize, out: &mut [u8]) -> usize {
     word(b" #", out, at)
 }
 
+pub fn numbers(first: u64, second: u64, third: u64, out: &mut [u8]) -> usize {
+    let at = word(b"= ok ", out, 0);
+    let at = decimal(first, out, at);
+    let at = word(b" ", out, at);
+    let at = decimal(second, out, at);
+    let at = word(b" ", out, at);
+    let at = decimal(third, out, at);
+    word(b" #", out, at)
+}
+
 // A refusal. One that wrote to a buffer agrees with no line.
 pub fn refusal(error: MatError, is_untouched: bool, out: &mut [u8]) -> usize {
     if !is_untouched {

@@ -9,7 +9,7 @@ use borrow.Author.Tests.{le-leb, lt-leb, leb-true, leb-false}
 use lib.Dec.{leb}
 use lib.ListN.{length, getD, take, drop, set, length-append, length-drop, take-append-drop}
 use lib.Seq.{length-take-le, take-at, drop-at, set-at, drop-cons, drop-drop, append-snoc, take-suc, drop-append-le, slice}
-use Rattle.text.specs.Buffer.{put, placed, placedEnd, Places, Filled, fill}
+use Rattle.text.specs.Buffer.{put, Puts, placed, placedEnd, Places, Filled, fill}
 use Rattle.text.proofs.TestLaws.{either, cond-both}
 
 pub put-none : (d : List ℕ) (at : ℕ) → put d at [] ≡ d
@@ -179,3 +179,22 @@ fill-fits d i (w ∷ ws) h =
     ap₂ (λ (x : List ℕ) (k : ℕ). fill x k ws) (r .1) (r .0)
     ∙ fill-fits (put d i w) (i + length w) ws (omega arith)
     ∙ ap₂ (λ (x : List ℕ) (k : ℕ). filled x k) (put-more d i w (joined ws) (i + length w) refl (omega arith)) (omega arith)
+
+-- ---- the same from an index on: what stands before it is the part that is written already
+
+module _ (d w : List ℕ) (at : ℕ) (room : at + length w ≤ length d) where
+  pub length-from : length (take at d ++ w) ≡ at + length w
+  length-from = omega (arith, length-append (take at d) w, length-take-le at d (omega arith))
+
+  pub fits-from : length (take at d ++ w) ≤ length d
+  fits-from = omega (arith, length-from)
+
+  pub begins-from : SoFar (take at d ++ w) w d d at
+  begins-from = record { whole = refl; beyond = refl; same = refl; count = omega (arith, length-from) }
+
+  pub ends-from : {d' : List ℕ} {o : ℕ} → SoFar (take at d ++ w) [] d d' o → Puts d at w o d'
+  unfolding put
+  ends-from {d'} {o} f = record {
+    end = omega (arith, f .count, length-from);
+    buffer = ends (take at d ++ w) d d' o f ∙ ap (λ (k : ℕ). take at d ++ w ++ drop k d) length-from;
+  }

@@ -108,6 +108,23 @@ pub foldRange-step : {S : Type 0} (f : ℕ → S → Result S) (i n : ℕ) (s : 
 unfolding foldRange
 foldRange-step f i n s e j l h = foldCount-step f i (n - i) s e j l (omega arith)
 
+-- a check that holds
+pub check-is : (q : ℕ) (t : Bool) (p : ℕ) {u : Unit {0}} → check q t p ≡ ok u → t ≡ true
+check-is q true p e = refl
+check-is q false p {u} e =
+    let z : _≡_ {A = ℕ} 0 1 = cc in
+    absurd (omega arith)
+
+-- a check that holds at each index of a range
+count-holds : (q : ℕ) (holds : ℕ → Bool) (i k : ℕ) → ((j : ℕ) → i ≤ j → j < i + k → holds j ≡ true) → checkCount q holds i k ≡ ok tt
+unfolding checkCount
+count-holds q holds i zero f = refl
+count-holds q holds i (suc k) f = rw (f i (omega arith) (omega arith)) (count-holds q holds (suc i) k (λ j l h. f j (omega arith) (omega arith)))
+
+pub each-holds : (q : ℕ) (holds : ℕ → Bool) (e : ℕ) → ((j : ℕ) → j < e → holds j ≡ true) → checkEach q holds 0 e ≡ ok tt
+unfolding checkEach
+each-holds q holds e f = count-holds q holds 0 (e - 0) (λ j l h. f j (omega arith))
+
 -- ---- a loop that puts a check to each index of a range: it holds before i
 pub record Checks (n : ℕ) (holds : ℕ → Bool) (from e i : ℕ) : Type 0 where
   pub bound : i ≤ e

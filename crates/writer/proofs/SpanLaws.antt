@@ -27,15 +27,15 @@ use Rattle.writer.specs.declared.checks.StringMeasure.the-variants as st
 
 -- ---- a value that is there
 
-some-is : (m : Option (List ℕ)) → isSome m ≡ true → m ≡ some (Option·getD m [])
+pub some-is : (m : Option (List ℕ)) → isSome m ≡ true → m ≡ some (Option·getD m [])
 some-is (some us) e = refl
 some-is none e = not-both e refl
 
-counted-some : (m : Option (List ℕ)) {u : ℕ} → some u ≡ Option·map length m → (isSome m ≡ true) × (u ≡ length (Option·getD m []))
+pub counted-some : (m : Option (List ℕ)) {u : ℕ} → some u ≡ Option·map length m → (isSome m ≡ true) × (u ≡ length (Option·getD m []))
 counted-some (some us) e = (refl, cc)
 counted-some none e = not-some (sym e)
 
-counted-none : (m : Option (List ℕ)) → none ≡ Option·map length m → m ≡ none
+pub counted-none : (m : Option (List ℕ)) → none ≡ Option·map length m → m ≡ none
 counted-none (some us) e = not-some e
 counted-none none e = refl
 

@@ -1,0 +1,274 @@
+-- The outcomes of `measure_payload`, `put_payload` and `decode_string_saveobj`, and what a payload that passed its checks is.
+-- Assumes nothing.
+use Prim.Native.Nat.{ℕ, _+_, _-_, _*_, _^_, _≤_, _<_, min}
+use mathlib.Core.Path.{_≡_, refl, sym, ap, subst, _∙_}
+use mathlib.Core.List.{List}
+use mathlib.Core.Option.{some}
+use native.Mathlib.Omega.{arith}
+use borrow.Author.Tests.{le-leb, lt-leb, leb-true}
+use lib.Dec.{leb}
+use lib.ListN.{length}
+use Rattle.text.specs.Errors.{failureOf}
+use Rattle.text.specs.Result.{Result, ok, error, mapResult, checkEach, overwritten}
+use Rattle.text.specs.Utf16.{textOf, theText}
+use Rattle.text.specs.declared.error.Failure.{Failure}
+use Rattle.text.specs.declared.error.MatError.{MatError}
+use Rattle.text.specs.declared.error.MatError.the-variants.{OutputTooShort}
+use Rattle.text.proofs.BufferLaws.{put-front}
+use Rattle.text.proofs.ResultLaws.{reply-is, seq-passed, bind-passed, checkEach-passed, check-is}
+use Rattle.reader.specs.Saveobj.{unitsBefore, Header, storedUnits, storedStrings, checkHeader, checkSum, checkLengths, checkStrings, decodePayload, joined, spansFrom, decodeSaveobj}
+use Rattle.reader.specs.SaveobjStages.{numberOf, headerOf, Counts, countsOf, stringsReplyOf, UnitsChecked, measuredStrings, StringsFit, WritesStrings, theStrings, PayloadFits, WritesPayload, DecodesSaveobj}
+use Rattle.reader.specs.declared.saveobj.HeaderReply.{HeaderReply}
+use Rattle.reader.specs.declared.saveobj.HeaderReply.the-variants as header
+use Rattle.reader.specs.declared.saveobj.NumberReply.{NumberReply}
+use Rattle.reader.specs.declared.saveobj.NumberReply.the-variants as number
+use Rattle.reader.specs.declared.saveobj.Position.{Position}
+use Rattle.reader.specs.declared.saveobj.StringsReply.{StringsReply}
+use Rattle.reader.specs.declared.saveobj.StringsReply.the-variants as reply
+use Rattle.reader.proofs.HeaderLaws.{HeaderPassed, header-passed}
+use Rattle.reader.proofs.LengthLaws.{sumFits}
+use Rattle.writer.proofs.SpanLaws.{some-is}
+use Rattle.reader.proofs.StringLaws.{isPaired, length-stored}
+
+-- ---- checks that passed
+
+-- a payload of n strings whose lengths begin at word base
+pub record PayloadPassed (payload : List ℕ) (base n : ℕ) (strings : List (List ℕ)) : Type 0 where
+  pub checked : UnitsChecked payload base n
+  pub paired : (i : ℕ) → i < n → textOf (storedUnits payload base n i) ≡ some (theText (storedUnits payload base n i))
+  pub is : strings ≡ storedStrings payload base n 0 n
+  pub many : length strings ≡ n
+
+sum-passed : (payload : List ℕ) (base n : ℕ) {sum : ℕ} → checkSum payload base n ≡ ok sum → sum ≡ unitsBefore payload base n
+unfolding checkSum
+sum-passed payload base n e =
+    let p = seq-passed (checkEach 27 (sumFits payload base) 0 n) _ e in
+    let k = p .1 .1 in
+    cc
+
+module _ (payload : List ℕ) (base n : ℕ) (h : HeaderPassed payload base n) where
+  checked-by : {sum : ℕ} → checkSum payload base n ≡ ok sum → sum ≤ 4 * (length payload - (base + n)) → UnitsChecked payload base n
+  checked-by e l = record { lengths = h .inside; units = omega (arith, sum-passed payload base n e); most = h .most }
+
+  strings-passed : UnitsChecked payload base n → {strings : List (List ℕ)} → checkStrings payload base n ≡ ok strings → PayloadPassed payload base n strings
+  unfolding checkStrings
+  strings-passed u {strings} e =
+      let p = seq-passed (checkEach 29 (isPaired payload base n) 0 n) _ e in
+      let k = p .1 .1 in
+      let s : strings ≡ storedStrings payload base n 0 n = cc in
+      record {
+        checked = u;
+        paired = λ i l. some-is (textOf (storedUnits payload base n i)) (checkEach-passed 29 (isPaired payload base n) 0 n (p .1 .0) i (omega arith) l);
+        is = s;
+        many = ap length s ∙ length-stored payload base n 0 n;
+      }
+
+  units-passed : {u : Unit {0}} → checkLengths payload base n ≡ ok u → UnitsChecked payload base n
+  unfolding checkLengths
+  units-passed e =
+      let p = bind-passed (checkSum payload base n) _ e in
+      checked-by (p .1 .0) (leb-true (p .0) (4 * (length payload - (base + n))) (check-is 28 (leb (p .0) (4 * (length payload - (base + n)))) (p .0) (p .1 .1)))
+
+-- a payload that has strings
+pub payload-passed : (payload : List ℕ) {strings : List (List ℕ)} → decodePayload payload ≡ ok strings
+    → (h : Header) × ((checkHeader payload ≡ ok h) × PayloadPassed payload (h .base) (h .strings) strings)
+unfolding decodePayload
+payload-passed payload e =
+    let p = bind-passed (checkHeader payload) _ e in
+    let h = p .0 in
+    let q = seq-passed (checkLengths payload (h .base) (h .strings)) _ (p .1 .1) in
+    let f = header-passed payload (p .1 .0) in
+    (h, (p .1 .0, strings-passed payload (h .base) (h .strings) f (units-passed payload (h .base) (h .strings) f (q .1 .0)) (q .1 .1)))
+
+-- ---- the outcomes of `measure_payload`
+
+-- the bytes of strings, and their number
+counted : (m : Result (List (List ℕ))) (n : ℕ) → ((ss : List (List ℕ)) → m ≡ ok ss → length ss ≡ n) → {b : ℕ} → mapResult (λ ss. length (joined ss)) m ≡ ok b
+    → _≡_ {A = Result Counts} (ok (record { bytes = b; strings = n })) (mapResult countsOf m)
+counted (ok ss) n f {b} e =
+    let l : length ss ≡ n = f ss refl in
+    let k : length (joined ss) ≡ b = cc in
+    rw (sym l, sym k)
+counted (error x) n f {b} e =
+    let z : _≡_ {A = ℕ} 0 1 = cc in
+    absurd (omega arith)
+
+failed : (m : Result (List (List ℕ))) {x : Failure} → mapResult (λ ss. length (joined ss)) m ≡ error x → error x ≡ mapResult countsOf m
+failed (ok ss) {x} e =
+    let z : _≡_ {A = ℕ} 0 1 = cc in
+    absurd (omega arith)
+failed (error y) {x} e =
+    let k : y ≡ x = cc in
+    rw (sym k)
+
+module _ (payload : List ℕ) {x : HeaderReply} (e : headerOf x ≡ checkHeader payload) where
+  pub payload-header : {f : MatError} → x ≡ header.Error f → error (failureOf f) ≡ mapResult countsOf (decodePayload payload)
+  unfolding decodePayload
+  payload-header g = rw (reply-is headerOf e g)
+
+  module _ {base n : ℕ} (g : x ≡ header.Header base n) where
+    passed : HeaderPassed payload base n
+    passed = header-passed payload (reply-is headerOf e g)
+
+    pub header-inside : base + n ≤ length payload
+    header-inside = passed .inside
+
+    pub header-fits : base + n < 2 ^ 64
+    header-fits = let p = passed in omega arith
+
+    module _ {y : NumberReply} (s : numberOf y ≡ checkSum payload base n) where
+      pub payload-sum : {f : MatError} → y ≡ number.Error f → error (failureOf f) ≡ mapResult countsOf (decodePayload payload)
+      unfolding decodePayload checkLengths
+      payload-sum k = rw (reply-is headerOf e g) (rw (reply-is numberOf s k))
+
+      module _ {sum : ℕ} (k : y ≡ number.Number sum) where
+        pub payload-units : 4 * (length payload - (base + n)) < sum → error (record { number = 28; place = sum }) ≡ mapResult countsOf (decodePayload payload)
+        unfolding decodePayload checkLengths
+        payload-units l = rw (reply-is headerOf e g) (simp (reply-is numberOf s k, lt-leb sum (4 * (length payload - (base + n))) l))
+
+        module _ (l : sum ≤ 4 * (length payload - (base + n))) where
+          pub payload-checked : UnitsChecked payload base n
+          payload-checked = checked-by payload base n passed (reply-is numberOf s k) l
+
+          strings-of : decodePayload payload ≡ checkStrings payload base n
+          unfolding decodePayload checkLengths
+          strings-of = rw (reply-is headerOf e g) (simp (reply-is numberOf s k, le-leb sum (4 * (length payload - (base + n))) l))
+
+          module _ {z : NumberReply} (w : numberOf z ≡ measuredStrings payload base n) where
+            pub payload-unpaired : {f : MatError} → z ≡ number.Error f → error (failureOf f) ≡ mapResult countsOf (decodePayload payload)
+            payload-unpaired d = rw strings-of (failed (checkStrings payload base n) (reply-is numberOf w d))
+
+            pub payload-measured : {b bytes : ℕ} → z ≡ number.Number b → bytes ≡ b → ok (record { bytes = bytes; strings = n }) ≡ mapResult countsOf (decodePayload payload)
+            payload-measured d q =
+                rw (strings-of, q)
+                (counted (checkStrings payload base n) n (λ ss t. strings-passed payload base n passed payload-checked t .many) (reply-is numberOf w d))
+
+pub ruleset measure-outcomes = (payload-header, payload-sum, payload-units, payload-unpaired, payload-measured)
+
+-- ---- the outcomes of `put_payload`
+
+abbrev stringsIn : List ℕ → List (List ℕ)
+stringsIn payload = theStrings (decodePayload payload)
+
+module _ (payload t s : List ℕ) (at : Position) (f : PayloadFits payload (length t) (length s) at) {x : HeaderReply} (e : headerOf x ≡ checkHeader payload) where
+  module _ {base n : ℕ} (g : x ≡ header.Header base n) where
+    is-passed : PayloadPassed payload base n (stringsIn payload)
+    is-passed =
+        let p = payload-passed payload (f .passed) in
+        let q = sym (p .1 .0) ∙ reply-is headerOf e g in
+        let z : _≡_ {A = Header} (p .0) (record { base = base; strings = n }) = cc in
+        subst (λ (h : Header). PayloadPassed payload (h .base) (h .strings) (stringsIn payload)) z (p .1 .1)
+
+    pub put-fits : StringsFit payload base n (at .byte) (length t) (at .string) (length s)
+    put-fits =
+        let p = is-passed in
+        record {
+          checked = p .checked;
+          paired = p .paired;
+          text = omega (arith, f .text, ap (λ (ss : List (List ℕ)). length (joined ss)) (p .is));
+          spans = omega (arith, f .spans, p .many);
+        }
+
+    pub put-index : length s * 8 < 2 ^ 63 → at .string + n < 2 ^ 64
+    put-index l = omega (arith, put-fits .spans)
+
+    pub put-writes : {next : ℕ} {t' s' : List ℕ} → WritesStrings (storedStrings payload base n 0 n) (at .byte) (at .string) t s next t' s'
+        → WritesPayload payload at t s (record { byte = next; string = at .string + n }) t' s'
+    put-writes {next} {t'} {s'} w =
+        let p = is-passed in
+        record {
+          strings = omega (arith, p .many);
+          writes = subst (λ (ss : List (List ℕ)). WritesStrings ss (at .byte) (at .string) t s next t' s') (sym (p .is)) w;
+        }
+
+  -- a payload that has strings has a header
+  pub put-never : {r : MatError} → x ≡ header.Error r → WritesPayload payload at t s at t s
+  put-never {r} g =
+      let p = payload-passed payload (f .passed) in
+      let q = sym (p .1 .0) ∙ reply-is headerOf e g in
+      let z : _≡_ {A = ℕ} 0 1 = cc in
+      absurd (omega arith)
+
+-- ---- the outcomes of `decode_string_saveobj`
+
+counts-are : (m : Result (List (List ℕ))) {b n : ℕ} → _≡_ {A = Result Counts} (mapResult countsOf m) (ok (record { bytes = b; strings = n }))
+    → (m ≡ ok (theStrings m)) × (length (joined (theStrings m)) ≡ b) × (length (theStrings m) ≡ n)
+counts-are (ok ss) {b} {n} e =
+    let k : _≡_ {A = Counts} (countsOf ss) (record { bytes = b; strings = n }) = cc in
+    (refl, ap (λ (c : Counts). c .bytes) k, ap (λ (c : Counts). c .strings) k)
+counts-are (error f) {b} {n} e =
+    let z : _≡_ {A = ℕ} 0 1 = cc in
+    absurd (omega arith)
+
+error-is : (m : Result (List (List ℕ))) {f : Failure} → mapResult countsOf m ≡ error f → m ≡ error f
+error-is (ok ss) {f} e =
+    let z : _≡_ {A = ℕ} 0 1 = cc in
+    absurd (omega arith)
+error-is (error g) {f} e =
+    let k : g ≡ f = cc in
+    ap error k
+
+module _ (payload text spans : List ℕ) where
+  comes : (m : Result (List (List ℕ))) {r : StringsReply} {text' spans' : List ℕ} → decodeSaveobj payload (length text) (length spans) ≡ m
+      → stringsReplyOf r ≡ mapResult countsOf m → text' ≡ overwritten joined m text → spans' ≡ overwritten (spansFrom 0) m spans
+      → DecodesSaveobj payload text spans r text' spans'
+  comes m e p q s = record {
+    reply = p ∙ ap (mapResult countsOf) (sym e);
+    text-after = q ∙ ap (λ (m : Result (List (List ℕ))). overwritten joined m text) (sym e);
+    spans-after = s ∙ ap (λ (m : Result (List (List ℕ))). overwritten (spansFrom 0) m spans) (sym e);
+  }
+
+  module _ (x : StringsReply) (e : stringsReplyOf x ≡ mapResult countsOf (decodePayload payload)) where
+    pub decode-refused : {f : MatError} → x ≡ reply.Error f → DecodesSaveobj payload text spans (reply.Error f) text spans
+    unfolding decodeSaveobj
+    decode-refused {f} g = comes (error (failureOf f)) (rw (error-is (decodePayload payload) (reply-is stringsReplyOf e g))) refl refl refl
+
+    module _ {b n : ℕ} (g : x ≡ reply.Strings b n) where
+      counts : (decodePayload payload ≡ ok (stringsIn payload)) × (length (joined (stringsIn payload)) ≡ b) × (length (stringsIn payload) ≡ n)
+      counts = counts-are (decodePayload payload) (reply-is stringsReplyOf e g)
+
+      -- the values of the spans fit 64 bits
+      pub decode-values : 2 * n < 2 ^ 64
+      decode-values =
+          let p = payload-passed payload (counts .0) .1 .1 in
+          omega (arith, counts .2, p .many, p .checked .lengths, p .checked .most)
+
+      short : (need : ℕ) → decodeSaveobj payload (length text) (length spans) ≡ error (record { number = 34; place = need })
+          → DecodesSaveobj payload text spans (reply.Error (OutputTooShort need)) text spans
+      short need d = comes (error (record { number = 34; place = need })) d refl refl refl
+
+      pub decode-short-text : b < 2 ^ 64 → length text < b → DecodesSaveobj payload text spans (reply.Error (OutputTooShort b)) text spans
+      unfolding decodeSaveobj
+      decode-short-text f h =
+          let l = counts .1 in
+          let p : min (length (joined (stringsIn payload))) (2 ^ 64 - 1) ≡ b = omega arith in
+          short b (rw (counts .0) (simp (lt-leb (length (joined (stringsIn payload))) (length text) (omega arith), p)))
+
+      module _ (fits : b ≤ length text) where
+        pub decode-short-spans : length spans < 2 * n → DecodesSaveobj payload text spans (reply.Error (OutputTooShort (2 * n))) text spans
+        unfolding decodeSaveobj
+        decode-short-spans h =
+            let l = counts .1 in
+            let k = counts .2 in
+            let p : min (2 * length (stringsIn payload)) (2 ^ 64 - 1) ≡ 2 * n = omega (arith, decode-values) in
+            short (2 * n)
+            (rw (counts .0)
+            (simp
+            (le-leb (length (joined (stringsIn payload))) (length text) (omega arith), lt-leb (2 * length (stringsIn payload)) (length spans) (omega arith), p)))
+
+        module _ (room : 2 * n ≤ length spans) where
+          pub decode-fits : PayloadFits payload (length text) (length spans) (record { byte = 0; string = 0 })
+          decode-fits = record { passed = counts .0; text = omega (arith, counts .1); spans = omega (arith, counts .2) }
+
+          pub decode-written : {next : Position} {text' spans' : List ℕ} → WritesPayload payload (record { byte = 0; string = 0 }) text spans next text' spans'
+              → DecodesSaveobj payload text spans (reply.Strings b n) text' spans'
+          unfolding decodeSaveobj
+          decode-written w =
+              let l = counts .1 in
+              let k = counts .2 in
+              comes (ok (stringsIn payload))
+              (rw (counts .0)
+              (simp
+              (le-leb (length (joined (stringsIn payload))) (length text) (omega arith), le-leb (2 * length (stringsIn payload)) (length spans) (omega arith))))
+              (rw (l, k)) (w .writes .text-after ∙ put-front text (joined (stringsIn payload)))
+              (w .writes .spans-after ∙ put-front spans (spansFrom 0 (stringsIn payload)))

@@ -1,0 +1,228 @@
+-- Strings in a payload, one after the other: the loops of `measure_strings` (check 29) and `put_strings`.
+-- Assumes nothing.
+use Prim.Native.Nat.{ℕ, zero, suc, _+_, _-_, _*_, _^_, _≤_, _<_}
+use mathlib.Core.Path.{_≡_, refl, sym, ap, subst, _∙_}
+use mathlib.Core.Bool.{Bool, true, false}
+use mathlib.Core.List.{List, [], _∷_, _++_, flatMap}
+use mathlib.Core.Option.{Option·map}
+use native.Mathlib.Numerals.{add-one}
+use native.Mathlib.Omega.{arith}
+use lib.ListN.{length, take, set, length-set, length-append}
+use Rattle.text.specs.Buffer.{put, Puts}
+use Rattle.text.specs.Result.{ok, error}
+use Rattle.text.specs.Utf16.{textOf, theText}
+use Rattle.text.proofs.BufferLaws.{SoFar, Splits, fits-next, goes-on, fits-from, begins-from, ends-from}
+use Rattle.text.proofs.ByteLaws.{stores}
+use Rattle.text.proofs.ResultLaws.{Checks, checks-start, checks-turn, checks-stop, checks-last}
+use Rattle.writer.specs.Spans.{isSome}
+use Rattle.reader.specs.Saveobj.{unitCount, unitsBefore, storedUnits, storedStrings, checkStrings, joined, spansFrom}
+use Rattle.reader.specs.SaveobjStages.{UnitsChecked, measuredStrings, StringsFit, WritesStrings}
+use Rattle.reader.specs.Units.{unitsIn, UnitsInside, UnitsFit, lengthOf}
+use Rattle.reader.specs.declared.units.TextLength.{TextLength}
+use Rattle.reader.specs.declared.units.TextLength.the-variants as textLength
+use Rattle.reader.proofs.LengthLaws.{units-next, units-most}
+use Rattle.writer.proofs.SpanLaws.{some-is, counted-some, counted-none}
+use Rattle.reader.proofs.UnitLaws.{text-most}
+
+-- ---- strings in a row
+
+pub joined-cons : (s : List ℕ) (ss : List (List ℕ)) → joined (s ∷ ss) ≡ s ++ joined ss
+unfolding flatMap
+joined-cons s ss = refl
+
+pub length-spans : (o : ℕ) (ss : List (List ℕ)) → length (spansFrom o ss) ≡ 2 * length ss
+unfolding spansFrom
+length-spans o [] = refl
+length-spans o (s ∷ ss) = omega (arith, length-spans (o + length s) ss)
+
+module _ (payload : List ℕ) (base n : ℕ) where
+  pub length-stored : (i k : ℕ) → length (storedStrings payload base n i k) ≡ k
+  unfolding storedStrings
+  length-stored i zero = refl
+  length-stored i (suc k) = ap suc (length-stored (suc i) k)
+
+  -- the strings from string i on
+  abbrev pub left : ℕ → List (List ℕ)
+  left i = storedStrings payload base n i (n - i)
+
+  left-all : left 0 ≡ storedStrings payload base n 0 n
+  left-all =
+      let z : n - 0 ≡ n = omega arith in
+      rw z
+
+  left-none : {i : ℕ} → n ≤ i → left i ≡ []
+  unfolding storedStrings
+  left-none {i} h =
+      let z : n - i ≡ zero = omega arith in
+      rw z
+
+  left-next : {i : ℕ} → i < n → left i ≡ theText (storedUnits payload base n i) ∷ left (i + 1)
+  unfolding storedStrings
+  left-next {i} h =
+      let k : n - i ≡ suc (n - suc i) = omega arith in
+      rw (k, add-one i)
+
+  -- the units of string i are there
+  module _ (u : UnitsChecked payload base n) {unit count i : ℕ} (a : unit ≡ unitsBefore payload base i) (h : i < n) (c : count ≡ unitCount payload base i) where
+    pub units-inside : UnitsInside payload (base + n) unit count
+    units-inside = record {
+      there = omega (arith, u .units, units-next payload base i, units-most payload base (i + 1) n (omega arith));
+      most = u .most;
+    }
+
+    pub units-are : unitsIn payload (base + n) unit count ≡ storedUnits payload base n i
+    units-are = rw (a, c)
+
+-- ---- check 29
+
+abbrev pub isPaired : List ℕ → ℕ → ℕ → ℕ → Bool
+isPaired payload base n i = isSome (textOf (storedUnits payload base n i))
+
+-- 29 holds of the strings before string i, and these are their bytes and units
+pub record Measuring (payload : List ℕ) (base n bytes unit i : ℕ) : Type 0 where
+  pub at : unit ≡ unitsBefore payload base i
+  pub most : bytes ≤ 3 * unit
+  pub sized : bytes + length (joined (left payload base n i)) ≡ length (joined (storedStrings payload base n 0 n))
+  pub checks : Checks 29 (isPaired payload base n) 0 n i
+
+module _ (payload : List ℕ) (base n : ℕ) where
+  pub measure-start : Measuring payload base n 0 0 0
+  unfolding unitsBefore
+  measure-start = record {
+    at = refl;
+    most = omega arith;
+    sized = omega (arith, ap (λ (ss : List (List ℕ)). length (joined ss)) (left-all payload base n));
+    checks = checks-start 29 (isPaired payload base n) 0 n (omega arith);
+  }
+
+  module _ {bytes unit i : ℕ} (u : UnitsChecked payload base n) (m : Measuring payload base n bytes unit i) where
+    module _ {count : ℕ} (h : i < n) (c : count ≡ unitCount payload base i) where
+      pub measure-inside : UnitsInside payload (base + n) unit count
+      measure-inside = units-inside payload base n u (m .at) h c
+
+      pub measure-unit : unit + count < 2 ^ 64
+      measure-unit = let i = measure-inside in omega arith
+
+      module _ {x : TextLength} (e : lengthOf x ≡ Option·map length (textOf (unitsIn payload (base + n) unit count))) where
+        module _ {more : ℕ} (g : x ≡ textLength.Bytes more) where
+          counted : (isSome (textOf (unitsIn payload (base + n) unit count)) ≡ true) × (more ≡ length (theText (unitsIn payload (base + n) unit count)))
+          counted = counted-some (textOf (unitsIn payload (base + n) unit count)) (sym (ap lengthOf g) ∙ e)
+
+          pub measure-turn : Measuring payload base n (bytes + more) (unit + count) (i + 1)
+          measure-turn =
+              let s : List ℕ = theText (storedUnits payload base n i) in
+              let w : length (theText (unitsIn payload (base + n) unit count)) ≡ length s = ap (λ (us : List ℕ). length (theText us)) (units-are payload base n u (m .at) h c) in
+              let l = ap (λ (ss : List (List ℕ)). length (joined ss)) (left-next payload base n h) in
+              record {
+                at = omega (arith, m .at, units-next payload base i);
+                most =
+                    omega
+                    (arith, m .most, counted .1, text-most payload (base + n) unit count (some-is (textOf (unitsIn payload (base + n) unit count)) (counted .0)));
+                sized =
+                    omega
+                    (arith, m .sized, l, w, counted .1, ap length (joined-cons s (left payload base n (i + 1))), length-append s (joined (left payload base n (i + 1))));
+                checks =
+                    checks-turn 29 (isPaired payload base n) 0 n (m .checks) h (rw (units-are payload base n u (m .at) h c) at (counted .0));
+              }
+
+          pub measure-bytes : bytes + more < 2 ^ 64
+          measure-bytes =
+              let i = measure-inside in
+              omega (arith, measure-turn .most)
+
+        pub measure-stop : x ≡ textLength.Unpaired → error (record { number = 29; place = i }) ≡ measuredStrings payload base n
+        unfolding checkStrings
+        measure-stop g =
+            let f : isSome (textOf (unitsIn payload (base + n) unit count)) ≡ false =
+            ap isSome (counted-none (textOf (unitsIn payload (base + n) unit count)) (sym (ap lengthOf g) ∙ e)) in
+            rw (checks-stop 29 (isPaired payload base n) 0 n (m .checks) h (rw (units-are payload base n u (m .at) h c) at f))
+
+  pub measure-last : {bytes unit i : ℕ} → Measuring payload base n bytes unit i → n ≤ i → ok bytes ≡ measuredStrings payload base n
+  unfolding checkStrings flatMap
+  measure-last {bytes} {unit} {i} m h =
+      let z : bytes ≡ length (joined (storedStrings payload base n 0 n)) =
+      omega (arith, m .sized, ap (λ (ss : List (List ℕ)). length (joined ss)) (left-none payload base n h)) in
+      rw (checks-last 29 (isPaired payload base n) 0 n (m .checks) h) (ap ok z)
+
+-- ---- writing
+
+-- the strings before string i are written, the last up to byte `byte`, and their spans
+pub record Writing (payload : List ℕ) (base n : ℕ) (t₀ : List ℕ) (start : ℕ) (s₀ : List ℕ) (index : ℕ) (t s : List ℕ) (byte unit i : ℕ) : Type 0 where
+  pub at : unit ≡ unitsBefore payload base i
+  pub bound : i ≤ n
+  pub text : SoFar (take start t₀ ++ joined (storedStrings payload base n 0 n)) (joined (left payload base n i)) t₀ t byte
+  pub spans : SoFar (take (2 * index) s₀ ++ spansFrom start (storedStrings payload base n 0 n)) (spansFrom byte (left payload base n i)) s₀ s (2 * (index + i))
+
+module _ (payload : List ℕ) (base n : ℕ) (t₀ : List ℕ) (start : ℕ) (s₀ : List ℕ) (index : ℕ) (f : StringsFit payload base n start (length t₀) index (length s₀)) where
+  abbrev all : List (List ℕ)
+  all = storedStrings payload base n 0 n
+
+  span-room : 2 * index + length (spansFrom start all) ≤ length s₀
+  span-room = omega (arith, f .spans, length-spans start all, length-stored payload base n 0 n)
+
+  pub write-start : Writing payload base n t₀ start s₀ index t₀ s₀ start 0 0
+  unfolding unitsBefore
+  write-start =
+      let z : 2 * (index + 0) ≡ 2 * index = omega arith in
+      record {
+        at = refl;
+        bound = omega arith;
+        text = rw (left-all payload base n) (begins-from t₀ (joined all) start (f .text));
+        spans = rw (left-all payload base n, z) (begins-from s₀ (spansFrom start all) (2 * index) span-room);
+      }
+
+  module _ {t s : List ℕ} {byte unit i count : ℕ} (m : Writing payload base n t₀ start s₀ index t s byte unit i) (h : i < n) (c : count ≡ unitCount payload base i) where
+    abbrev string : List ℕ
+    string = theText (unitsIn payload (base + n) unit count)
+
+    string-is : string ≡ theText (storedUnits payload base n i)
+    string-is = ap theText (units-are payload base n (f .checked) (m .at) h c)
+
+    text-next : Splits (joined (left payload base n i)) string (joined (left payload base n (i + 1)))
+    text-next = record {
+      is = ap joined (left-next payload base n h) ∙ joined-cons _ _ ∙ ap (λ (x : List ℕ). x ++ joined (left payload base n (i + 1))) (sym string-is);
+    }
+
+    spans-next : Splits (spansFrom byte (left payload base n i)) (byte ∷ length string ∷ []) (spansFrom (byte + length string) (left payload base n (i + 1)))
+    unfolding spansFrom
+    spans-next = record { is = rw (left-next payload base n h, string-is) }
+
+    pub write-fits : UnitsFit payload (base + n) unit count byte (length t)
+    write-fits = record {
+      inside = units-inside payload base n (f .checked) (m .at) h c;
+      is-text = rw (units-are payload base n (f .checked) (m .at) h c) (f .paired i h);
+      fits = fits-next (fits-from t₀ (joined all) start (f .text)) text-next (m .text);
+    }
+
+    pub write-span : 2 * (index + i) + 2 ≤ length s
+    write-span = fits-next (fits-from s₀ (spansFrom start all) (2 * index) span-room) spans-next (m .spans)
+
+    pub write-slot : 2 * (index + i) + 1 < length (set s (2 * (index + i)) byte)
+    write-slot = simp length-set (omega (arith, write-span))
+
+    pub write-unit : unit + count < 2 ^ 64
+    write-unit = let u = write-fits .inside in omega arith
+
+    pub write-turn : {t' : List ℕ} {end : ℕ} → Puts t byte string end t'
+        → Writing payload base n t₀ start s₀ index t' (set (set s (2 * (index + i)) byte) (2 * (index + i) + 1) (end - byte)) end (unit + count) (i + 1)
+    write-turn {t'} {end} p =
+        let l : end - byte ≡ length string = omega (arith, p .end) in
+        let k : 2 * (index + i) + 1 ≡ suc (2 * (index + i)) = omega arith in
+        let s' : List ℕ = set (set s (2 * (index + i)) byte) (2 * (index + i) + 1) (end - byte) in
+        let e : s' ≡ put s (2 * (index + i)) (byte ∷ length string ∷ []) =
+        rw (l, k) (stores (byte ∷ length string ∷ []) s (2 * (index + i)) write-span) in
+        let q = goes-on (fits-from s₀ (spansFrom start all) (2 * index) span-room) spans-next (m .spans) s' (2 * (index + (i + 1))) e (omega arith) in
+        record {
+          at = omega (arith, m .at, units-next payload base i);
+          bound = omega arith;
+          text = goes-on (fits-from t₀ (joined all) start (f .text)) text-next (m .text) t' end (p .buffer) (p .end);
+          spans =
+              subst (λ (b : ℕ). SoFar (take (2 * index) s₀ ++ spansFrom start all) (spansFrom b (left payload base n (i + 1))) s₀ s' (2 * (index + (i + 1)))) (sym (p .end)) q;
+        }
+
+  pub write-last : {t s : List ℕ} {byte unit i : ℕ} → Writing payload base n t₀ start s₀ index t s byte unit i → n ≤ i → WritesStrings all start index t₀ s₀ byte t s
+  unfolding flatMap spansFrom
+  write-last m h =
+      let p = ends-from t₀ (joined all) start (f .text) (rw (left-none payload base n h) at (m .text)) in
+      let q = ends-from s₀ (spansFrom start all) (2 * index) span-room (rw (left-none payload base n h) at (m .spans)) in
+      record { end = p .end; text-after = p .buffer; spans-after = q .buffer }

@@ -1,0 +1,74 @@
+-- Code units in words: what `unit_at` and `step_at` read, and the longest text of units.
+-- Assumes nothing.
+use mathlib.Core.Path.{_≡_, refl, _∙_, ap}
+use mathlib.Core.Bool.{true, false}
+use mathlib.Core.List.{List, [], _∷_}
+use mathlib.Core.Option.{some}
+use Prim.Native.Nat.{ℕ, zero, suc, _+_, _-_, _*_, _≤_, _<_}
+use native.Mathlib.Omega.{arith}
+use borrow.Author.Tests.{lt-ltb, le-ltb}
+use lib.ListN.{length, getD, List·getD-eq-default}
+use Rattle.text.specs.Unicode.{Below, utf8s}
+use Rattle.text.specs.Utf16.{unitStep, unitStepAt, scalars16, textOf}
+use Rattle.text.specs.declared.utf16.UnitStep.{UnitStep}
+use Rattle.text.proofs.DecodeLaws.{Reading, reads-start}
+use Rattle.text.proofs.ScalarLaws.{bytes-le}
+use Rattle.text.proofs.Utf8Laws.{map-is}
+use Rattle.text.proofs.Utf16Laws.{spelled16}
+use Rattle.reader.specs.Units.{unitAt, unitsIn}
+
+pub length-units : (w : List ℕ) (first k n : ℕ) → length (unitsIn w first k n) ≡ n
+unfolding unitsIn
+length-units w first k zero = refl
+length-units w first k (suc n) = ap suc (length-units w first (suc k) n)
+
+pub units-below : (w : List ℕ) (first k n : ℕ) → Below 65536 (unitsIn w first k n)
+unfolding unitsIn unitAt
+units-below w first k zero = tt
+units-below w first k (suc n) = (omega arith, units-below w first (suc k) n)
+
+-- unit i of them
+unit-of : (w : List ℕ) (first k n i : ℕ) → i < n → getD (unitsIn w first k n) i 0 ≡ unitAt w first (k + i)
+unfolding unitsIn
+unit-of w first k zero i h = absurd (omega arith)
+unit-of w first k (suc n) zero h =
+    let z : k + 0 ≡ k = omega arith in
+    rw z
+unit-of w first k (suc n) (suc i) h =
+    let s : k + suc i ≡ suc k + i = omega arith in
+    rw s (unit-of w first (suc k) n i (omega arith))
+
+below-at : (b : ℕ) (us : List ℕ) → 0 < b → Below b us → (i : ℕ) → getD us i 0 < b
+below-at b [] p h i = p
+below-at b (u ∷ us) p h zero = h .0
+below-at b (u ∷ us) p h (suc i) = below-at b us p (h .1) i
+
+pub reads-units : (w : List ℕ) (first k n : ℕ) → Reading (unitsIn w first k n) 0
+reads-units w first k n = reads-start (unitsIn w first k n) (below-at 65536 (unitsIn w first k n) (omega arith) (units-below w first k n))
+
+-- ---- the returns of `step_at`
+
+module _ (w : List ℕ) (first k n i : ℕ) {u : ℕ} (h : i < n) (eu : u ≡ unitAt w first (k + i)) where
+  pub step-last : n - i < 2 → {x : UnitStep} → x ≡ unitStep u 0 false → x ≡ unitStepAt (unitsIn w first k n) i
+  step-last l e =
+      let m = length-units w first k n in
+      e
+      ∙ rw (
+        unit-of w first k n i h,
+        List·getD-eq-default (unitsIn w first k n) 0 {n = i + 1} (omega arith),
+        le-ltb (i + 1) (length (unitsIn w first k n)) (omega arith),
+        eu,
+      )
+
+  pub step-more : 2 ≤ n - i → {v : ℕ} → v ≡ unitAt w first (k + (i + 1)) → {x : UnitStep} → x ≡ unitStep u v true → x ≡ unitStepAt (unitsIn w first k n) i
+  step-more l ev e =
+      let m = length-units w first k n in
+      e
+      ∙ rw (unit-of w first k n i h, unit-of w first k n (i + 1) (omega arith), lt-ltb (i + 1) (length (unitsIn w first k n)) (omega arith), eu, ev)
+
+-- a text has at most three bytes a unit
+pub text-most : (w : List ℕ) (first k n : ℕ) {t : List ℕ} → textOf (unitsIn w first k n) ≡ some t → length t ≤ 3 * n
+text-most w first k n e =
+    let o = map-is utf8s (scalars16 (unitsIn w first k n)) e in
+    let s = spelled16 (unitsIn w first k n) (units-below w first k n) (o .0) (o .1 .0) in
+    omega (arith, ap length (s .units), ap length (o .1 .1), bytes-le (o .0), length-units w first k n)

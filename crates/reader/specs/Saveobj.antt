@@ -1,0 +1,105 @@
+-- Saveobj payloads: the strings that one holds, with checks 22 to 29, and what decoding one into output buffers comes to.
+-- Assumes nothing.
+use Prim.Native.Nat.{ℕ, zero, suc, _+_, _-_, _*_, _^_}
+use mathlib.Core.Bool.{cond}
+use mathlib.Core.List.{List, [], _∷_, flatMap}
+use lib.Dec.{leb, ltb, eqb}
+use lib.ListN.{length, getD}
+use Rattle.text.specs.Result.{Result, ok, check, checkEach, checkOutput, _>>_, _>>=_}
+use Rattle.text.specs.Unicode.{within}
+use Rattle.text.specs.Utf16.{textOf, theText}
+use Rattle.writer.specs.Spans.{isSome}
+use Rattle.reader.specs.Units.{unitsIn}
+
+-- "A payload is 1, number of dimensions, dimensions, lengths in code units, then units"
+abbrev pub dimCount : List ℕ → ℕ
+dimCount payload = getD payload 1 0
+
+-- the product of the first i dimensions; "No dimensions means product 1"
+unfoldable pub dimsProduct : List ℕ → ℕ → ℕ
+dimsProduct payload zero = 1
+dimsProduct payload (suc i) = dimsProduct payload i * getD payload (2 + i) 0
+
+-- the code units of string i, where the lengths begin at word base; "Length 2^64 − 1 marks a missing string: empty, no units"
+unfoldable pub unitCount : List ℕ → ℕ → ℕ → ℕ
+unitCount payload base i = cond (eqb (getD payload (base + i) 0) (2 ^ 64 - 1)) 0 (getD payload (base + i) 0)
+
+-- the code units of the strings before string i
+unfoldable pub unitsBefore : List ℕ → ℕ → ℕ → ℕ
+unitsBefore payload base zero = 0
+unitsBefore payload base (suc i) = unitsBefore payload base i + unitCount payload base i
+
+-- string i of n in UTF-16: the units begin after the lengths
+abbrev pub storedUnits : List ℕ → ℕ → ℕ → ℕ → List ℕ
+storedUnits payload base n i = unitsIn payload (base + n) (unitsBefore payload base i) (unitCount payload base i)
+
+-- the k strings from string i on in UTF-8
+unfoldable pub storedStrings : List ℕ → ℕ → ℕ → ℕ → ℕ → List (List ℕ)
+storedStrings payload base n i zero = []
+storedStrings payload base n i (suc k) = theText (storedUnits payload base n i) ∷ storedStrings payload base n (suc i) k
+
+-- where the lengths begin, and the number of strings
+pub record Header : Type 0 where
+  pub base : ℕ
+  pub strings : ℕ
+
+-- 25 "Product as in 20?", which is "Does their product, taken left to right, stay below 2^64 at each step?", for the first n dimensions
+unfoldable pub checkDims : List ℕ → ℕ → Result ℕ
+checkDims payload n = do
+  checkEach 25 (λ i. ltb (dimsProduct payload (suc i)) (2 ^ 64)) 0 n
+  ok (dimsProduct payload n)
+
+unfoldable pub checkHeader : List ℕ → Result Header
+checkHeader payload = do
+  -- 22 "From 2 to 2,097,152 words?"
+  check 22 (within 2 2097152 (length payload)) (length payload)
+  -- 23 "Is word 0 equal to 1?"
+  check 23 (eqb (getD payload 0 0) 1) (getD payload 0 0)
+  -- 24 "Do the dimensions fit?"
+  check 24 (leb (2 + dimCount payload) (length payload)) (dimCount payload)
+  product ← checkDims payload (dimCount payload)
+  -- 26 "Do the lengths fit?"
+  check 26 (leb (2 + dimCount payload + product) (length payload)) product
+  ok (record { base = 2 + dimCount payload; strings = product })
+
+-- 27 "Is their sum below 2^64?" for the first n lengths
+unfoldable pub checkSum : List ℕ → ℕ → ℕ → Result ℕ
+checkSum payload base n = do
+  checkEach 27 (λ i. ltb (unitsBefore payload base (suc i)) (2 ^ 64)) 0 n
+  ok (unitsBefore payload base n)
+
+-- 28 "Are there that many code units?"
+unfoldable pub checkLengths : List ℕ → ℕ → ℕ → Result (Unit {0})
+checkLengths payload base n = do
+  sum ← checkSum payload base n
+  check 28 (leb sum (4 * (length payload - (base + n)))) sum
+
+-- 29 "Is every surrogate paired within its string?"
+unfoldable pub checkStrings : List ℕ → ℕ → ℕ → Result (List (List ℕ))
+checkStrings payload base n = do
+  checkEach 29 (λ i. isSome (textOf (storedUnits payload base n i))) 0 n
+  ok (storedStrings payload base n 0 n)
+
+-- the strings of a payload: 22 to 29
+unfoldable pub decodePayload : List ℕ → Result (List (List ℕ))
+decodePayload payload = do
+  header ← checkHeader payload
+  checkLengths payload (header .base) (header .strings)
+  checkStrings payload (header .base) (header .strings)
+
+-- "UTF-8 text, end to end"
+abbrev pub joined : List (List ℕ) → List ℕ
+joined strings = flatMap (λ s. s) strings
+
+-- the spans of strings end to end from byte o on
+unfoldable pub spansFrom : ℕ → List (List ℕ) → List ℕ
+spansFrom o [] = []
+spansFrom o (s ∷ ss) = o ∷ length s ∷ spansFrom (o + length s) ss
+
+-- `decode_string_saveobj`: 22 to 29, then 34 for the text's bytes and for the values of the spans
+unfoldable pub decodeSaveobj : List ℕ → ℕ → ℕ → Result (List (List ℕ))
+decodeSaveobj payload textRoom spanRoom = do
+  strings ← decodePayload payload
+  checkOutput (length (joined strings)) textRoom
+  checkOutput (2 * length strings) spanRoom
+  ok strings

@@ -1,0 +1,88 @@
+-- What the replies of decoding a payload say, what its private stages promise each other, and what the call promises.
+-- Assumes nothing.
+use Prim.Native.Nat.{ℕ, _+_, _-_, _*_, _≤_, _<_}
+use mathlib.Core.Path.{_≡_}
+use mathlib.Core.List.{List, []}
+use mathlib.Core.Option.{some}
+use lib.ListN.{length}
+use Rattle.text.specs.Buffer.{put}
+use Rattle.text.specs.Errors.{failureOf}
+use Rattle.text.specs.Result.{Result, ok, error, mapResult, overwritten}
+use Rattle.text.specs.Utf16.{textOf, theText}
+use Rattle.reader.specs.declared.saveobj.NumberReply.{NumberReply}
+use Rattle.reader.specs.declared.saveobj.NumberReply.the-variants as number
+use Rattle.reader.specs.declared.saveobj.HeaderReply.{HeaderReply}
+use Rattle.reader.specs.declared.saveobj.HeaderReply.the-variants as header
+use Rattle.reader.specs.declared.saveobj.StringsReply.{StringsReply}
+use Rattle.reader.specs.declared.saveobj.StringsReply.the-variants as strings
+use Rattle.reader.specs.declared.saveobj.Position.{Position}
+use Rattle.reader.specs.Saveobj.{Header, unitsBefore, storedUnits, storedStrings, checkStrings, decodePayload, joined, spansFrom, decodeSaveobj}
+
+-- ---- replies
+
+abbrev pub numberOf : NumberReply → Result ℕ
+numberOf (number.Number n) = ok n
+numberOf (number.Error e) = error (failureOf e)
+
+abbrev pub headerOf : HeaderReply → Result Header
+headerOf (header.Header base n) = ok (record { base = base; strings = n })
+headerOf (header.Error e) = error (failureOf e)
+
+-- "text bytes and number of strings"
+pub record Counts : Type 0 where
+  pub bytes : ℕ
+  pub strings : ℕ
+
+abbrev pub countsOf : List (List ℕ) → Counts
+countsOf ss = record { bytes = length (joined ss); strings = length ss }
+
+abbrev pub stringsReplyOf : StringsReply → Result Counts
+stringsReplyOf (strings.Strings b n) = ok (record { bytes = b; strings = n })
+stringsReplyOf (strings.Error e) = error (failureOf e)
+
+-- ---- stages
+
+-- 22 to 28 hold of a payload of n strings whose lengths begin at word base
+pub record UnitsChecked (payload : List ℕ) (base n : ℕ) : Type 0 where
+  pub lengths : base + n ≤ length payload
+  pub units : unitsBefore payload base n ≤ 4 * (length payload - (base + n))
+  pub most : length payload ≤ 2097152
+
+-- the bytes of n strings, or 29
+abbrev pub measuredStrings : List ℕ → ℕ → ℕ → Result ℕ
+measuredStrings payload base n = mapResult (λ ss. length (joined ss)) (checkStrings payload base n)
+
+-- 29 holds too, and there is room for the strings from byte `byte` on, and for their spans from span `index` on
+pub record StringsFit (payload : List ℕ) (base n byte textRoom index spanRoom : ℕ) : Type 0 where
+  pub checked : UnitsChecked payload base n
+  pub paired : (i : ℕ) → i < n → textOf (storedUnits payload base n i) ≡ some (theText (storedUnits payload base n i))
+  pub text : byte + length (joined (storedStrings payload base n 0 n)) ≤ textRoom
+  pub spans : 2 * (index + n) ≤ spanRoom
+
+-- strings are written from byte `byte` of the text on, and their spans from span `index` on; next is the byte after them
+pub record WritesStrings (ss : List (List ℕ)) (byte index : ℕ) (text spans : List ℕ) (next : ℕ) (text' spans' : List ℕ) : Type 0 where
+  pub end : next ≡ byte + length (joined ss)
+  pub text-after : text' ≡ put text byte (joined ss)
+  pub spans-after : spans' ≡ put spans (2 * index) (spansFrom byte ss)
+
+-- the strings where there are some
+abbrev pub theStrings : Result (List (List ℕ)) → List (List ℕ)
+theStrings (ok ss) = ss
+theStrings (error e) = []
+
+-- 22 to 29 hold of a payload, and there is room for its strings and their spans at a position
+pub record PayloadFits (payload : List ℕ) (textRoom spanRoom : ℕ) (at : Position) : Type 0 where
+  pub passed : decodePayload payload ≡ ok (theStrings (decodePayload payload))
+  pub text : at .byte + length (joined (theStrings (decodePayload payload))) ≤ textRoom
+  pub spans : 2 * (at .string + length (theStrings (decodePayload payload))) ≤ spanRoom
+
+pub record WritesPayload (payload : List ℕ) (at : Position) (text spans : List ℕ) (next : Position) (text' spans' : List ℕ) : Type 0 where
+  pub strings : next .string ≡ at .string + length (theStrings (decodePayload payload))
+  pub writes : WritesStrings (theStrings (decodePayload payload)) (at .byte) (at .string) text spans (next .byte) text' spans'
+
+-- ---- the call
+
+pub record DecodesSaveobj (payload text spans : List ℕ) (r : StringsReply) (text' spans' : List ℕ) : Type 0 where
+  pub reply : stringsReplyOf r ≡ mapResult countsOf (decodeSaveobj payload (length text) (length spans))
+  pub text-after : text' ≡ overwritten joined (decodeSaveobj payload (length text) (length spans)) text
+  pub spans-after : spans' ≡ overwritten (spansFrom 0) (decodeSaveobj payload (length text) (length spans)) spans

@@ -1,0 +1,35 @@
+-- UTF-16 code units in words of 64 bits.
+-- Assumes nothing.
+use Prim.Native.Nat.{ℕ, zero, suc, _+_, _-_, _*_, _/_, _%_, _^_, _≤_}
+use mathlib.Core.Path.{_≡_}
+use mathlib.Core.List.{List, [], _∷_}
+use mathlib.Core.Option.{Option, some, none}
+use lib.ListN.{length, getD}
+use Rattle.text.specs.Utf16.{textOf, theText}
+use Rattle.reader.specs.declared.units.TextLength.{TextLength}
+use Rattle.reader.specs.declared.units.TextLength.the-variants as textLength
+
+-- "units four to a word, low 16 bits first": unit k of the words from index first on
+unfoldable pub unitAt : List ℕ → ℕ → ℕ → ℕ
+unitAt words first k = getD words (first + k / 4) 0 / 2 ^ (16 * (k % 4)) % 65536
+
+-- the n units from unit k on
+unfoldable pub unitsIn : List ℕ → ℕ → ℕ → ℕ → List ℕ
+unitsIn words first k zero = []
+unitsIn words first k (suc n) = unitAt words first k ∷ unitsIn words first (suc k) n
+
+-- those units are there
+pub record UnitsInside (words : List ℕ) (first k n : ℕ) : Type 0 where
+  pub there : k + n ≤ 4 * (length words - first)
+  pub most : length words ≤ 2097152
+
+-- they have a text, and from index at on there is room for it
+pub record UnitsFit (words : List ℕ) (first k n at room : ℕ) : Type 0 where
+  pub inside : UnitsInside words first k n
+  pub is-text : textOf (unitsIn words first k n) ≡ some (theText (unitsIn words first k n))
+  pub fits : at + length (theText (unitsIn words first k n)) ≤ room
+
+-- the length of the text of code units, where there is one
+abbrev pub lengthOf : TextLength → Option ℕ
+lengthOf (textLength.Bytes n) = some n
+lengthOf textLength.Unpaired = none

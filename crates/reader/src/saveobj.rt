@@ -1,0 +1,239 @@
+// Saveobj payloads of string arrays, as `decode_string_saveobj` of `src/mat/de/mcos_reader.rs` of the Rust reads them.
+use crate::units::TextLength;
+use crate::units::put_text;
+use crate::units::text_length;
+use text::convert::product_fits;
+use text::convert::to_usize;
+use text::error::MatError;
+use writer::string_object::MATLAB_STRING_SAVEOBJ_VERSION;
+use writer::string_object::MAX_PAYLOAD_WORDS;
+ghost use mathlib.Core.Path.{_≡_};
+ghost use Prim.Native.Nat.{_+_, _≤_, _<_};
+ghost use lib.ListN.{length};
+ghost use Rattle.text.specs.Result.{mapResult};
+ghost use Rattle.reader.specs.Saveobj.{unitCount, storedStrings, checkDims, checkHeader, checkSum, decodePayload};
+ghost use Rattle.reader.specs.SaveobjStages.{numberOf, headerOf, countsOf, stringsReplyOf, measuredStrings, UnitsChecked, StringsFit, WritesStrings, PayloadFits, WritesPayload, DecodesSaveobj};
+
+// The length that marks a missing string.
+const MISSING: u64 = 0xFFFF_FFFF_FFFF_FFFF;
+
+// A number that was checked, or the refusal.
+pub(crate) enum NumberReply {
+    Number(u64),
+    Error(MatError),
+}
+
+// Check 25: the product of n dimensions.
+fn dims_product(payload: &[u64], n: usize) -> NumberReply
+    requires { ⌜ 2 + n ≤ length (now payload) ⌝ }
+    ensures { λ r. ⌜ numberOf r ≡ checkDims (now (payload .entry)) n ⌝ }
+{
+    let mut product: u64 = 1;
+    let mut i: usize = 0;
+    while i < n {
+        let dim = payload[2 + i];
+        if !product_fits(product, dim) {
+            return NumberReply::Error(MatError::PayloadProductOverflow(i as u64));
+        }
+        product *= dim;
+        i += 1;
+    }
+    NumberReply::Number(product)
+}
+
+// The index of the first length and the number of strings, or the refusal.
+pub(crate) enum HeaderReply {
+    Header { base: usize, strings: usize },
+    Error(MatError),
+}
+
+// Checks 22 to 26.
+fn read_header(payload: &[u64]) -> HeaderReply
+    ensures { λ r. ⌜ headerOf r ≡ checkHeader (now (payload .entry)) ⌝ }
+{
+    let len = payload.len();
+    if len < 2 || MAX_PAYLOAD_WORDS < len {
+        return HeaderReply::Error(MatError::PayloadSize(len as u64));
+    }
+    let version = payload[0];
+    if version != MATLAB_STRING_SAVEOBJ_VERSION {
+        return HeaderReply::Error(MatError::PayloadVersion(version));
+    }
+    let dims = to_usize(payload[1]);
+    if len - 2 < dims {
+        return HeaderReply::Error(MatError::PayloadDimensionsTruncated(dims as u64));
+    }
+    let base = 2 + dims;
+    match dims_product(payload, dims) {
+        NumberReply::Number(product) => {
+            let strings = to_usize(product);
+            if len - base < strings {
+                return HeaderReply::Error(MatError::PayloadLengthsTruncated(product));
+            }
+            HeaderReply::Header { base, strings }
+        }
+        NumberReply::Error(e) => HeaderReply::Error(e),
+    }
+}
+
+// The code units of string i: none for a missing one.
+fn unit_count(payload: &[u64], base: usize, i: usize) -> usize
+    requires { ⌜ base + i < length (now payload) ⌝ }
+    ensures { λ r. ⌜ r ≡ unitCount (now (payload .entry)) base i ⌝ }
+{
+    let count = payload[base + i];
+    if count == MISSING {
+        return 0;
+    }
+    to_usize(count)
+}
+
+// Check 27: the code units of n strings.
+fn sum_lengths(payload: &[u64], base: usize, n: usize) -> NumberReply
+    requires { ⌜ base + n ≤ length (now payload) ⌝ }
+    ensures { λ r. ⌜ numberOf r ≡ checkSum (now (payload .entry)) base n ⌝ }
+{
+    let mut sum: usize = 0;
+    let mut i: usize = 0;
+    while i < n {
+        let count = unit_count(payload, base, i);
+        if 0xFFFF_FFFF_FFFF_FFFF - sum < count {
+            return NumberReply::Error(MatError::PayloadLengthSumOverflow(i as u64));
+        }
+        sum += count;
+        i += 1;
+    }
+    NumberReply::Number(sum as u64)
+}
+
+// Check 29: the bytes of n strings, in one walk over their units.
+fn measure_strings(payload: &[u64], base: usize, n: usize) -> NumberReply
+    requires { ⌜ UnitsChecked (now payload) base n ⌝ }
+    ensures { λ r. ⌜ numberOf r ≡ measuredStrings (now (payload .entry)) base n ⌝ }
+{
+    let first = base + n;
+    let mut bytes: usize = 0;
+    let mut unit: usize = 0;
+    let mut i: usize = 0;
+    while i < n {
+        let count = unit_count(payload, base, i);
+        match text_length(payload, first, unit, count) {
+            TextLength::Bytes(more) => {
+                bytes += more;
+            }
+            TextLength::Unpaired => {
+                return NumberReply::Error(MatError::UnpairedSurrogate(i as u64));
+            }
+        }
+        unit += count;
+        i += 1;
+    }
+    NumberReply::Number(bytes as u64)
+}
+
+// The bytes of text and the number of strings, or the refusal.
+pub enum StringsReply {
+    Strings { bytes: usize, strings: usize },
+    Error(MatError),
+}
+
+// Checks 22 to 29, and what a payload's strings need.
+pub(crate) fn measure_payload(payload: &[u64]) -> StringsReply
+    ensures { λ r. ⌜ stringsReplyOf r ≡ mapResult countsOf (decodePayload (now (payload .entry))) ⌝ }
+{
+    match read_header(payload) {
+        HeaderReply::Header { base, strings } => match sum_lengths(payload, base, strings) {
+            NumberReply::Number(sum) => {
+                let room = 4 * (payload.len() - (base + strings));
+                if (room as u64) < sum {
+                    return StringsReply::Error(MatError::PayloadUnitsTruncated(sum));
+                }
+                match measure_strings(payload, base, strings) {
+                    NumberReply::Number(bytes) => StringsReply::Strings {
+                        bytes: to_usize(bytes),
+                        strings,
+                    },
+                    NumberReply::Error(e) => StringsReply::Error(e),
+                }
+            }
+            NumberReply::Error(e) => StringsReply::Error(e),
+        },
+        HeaderReply::Error(e) => StringsReply::Error(e),
+    }
+}
+
+// Writes n strings into text from byte start on, and their spans into spans from span index on. Returns the byte after them.
+fn put_strings(
+    payload: &[u64],
+    base: usize,
+    n: usize,
+    text: &mut [u8],
+    start: usize,
+    spans: &mut [u64],
+    index: usize,
+) -> usize
+    requires { ⌜ StringsFit (now payload) base n start (length (now text)) index (length (now spans)) ⌝ }
+    ensures { λ r. ⌜ WritesStrings (storedStrings (now (payload .entry)) base n 0 n) start index (now (text .entry)) (now (spans .entry)) r (now (text .exit)) (now (spans .exit)) ⌝ }
+{
+    let first = base + n;
+    let mut byte = start;
+    let mut unit: usize = 0;
+    let mut i: usize = 0;
+    while i < n {
+        let count = unit_count(payload, base, i);
+        let end = put_text(payload, first, unit, count, text, byte);
+        spans[2 * (index + i)] = byte as u64;
+        spans[2 * (index + i) + 1] = (end - byte) as u64;
+        byte = end;
+        unit += count;
+        i += 1;
+    }
+    byte
+}
+
+// Where the next string goes: its first byte, and its index among the spans.
+pub(crate) struct Position {
+    byte: usize,
+    string: usize,
+}
+
+// Writes the strings of a payload that was measured, and returns the position after them.
+pub(crate) fn put_payload(
+    payload: &[u64],
+    text: &mut [u8],
+    spans: &mut [u64],
+    at: Position,
+) -> Position
+    requires { ⌜ PayloadFits (now payload) (length (now text)) (length (now spans)) at ⌝ }
+    ensures { λ r. ⌜ WritesPayload (now (payload .entry)) at (now (text .entry)) (now (spans .entry)) r (now (text .exit)) (now (spans .exit)) ⌝ }
+{
+    match read_header(payload) {
+        HeaderReply::Header { base, strings } => {
+            let byte = put_strings(payload, base, strings, text, at.byte, spans, at.string);
+            Position {
+                byte,
+                string: at.string + strings,
+            }
+        }
+        HeaderReply::Error(_) => at,
+    }
+}
+
+// Writes the strings of a saveobj payload to the start of text, in UTF-8 and end to end, and their spans to the start of spans.
+pub fn decode_string_saveobj(payload: &[u64], text: &mut [u8], spans: &mut [u64]) -> StringsReply
+    ensures { λ r. ⌜ DecodesSaveobj (now (payload .entry)) (now (text .entry)) (now (spans .entry)) r (now (text .exit)) (now (spans .exit)) ⌝ }
+{
+    match measure_payload(payload) {
+        StringsReply::Strings { bytes, strings } => {
+            if text.len() < bytes {
+                return StringsReply::Error(MatError::OutputTooShort(bytes as u64));
+            }
+            if spans.len() < 2 * strings {
+                return StringsReply::Error(MatError::OutputTooShort((2 * strings) as u64));
+            }
+            put_payload(payload, text, spans, Position { byte: 0, string: 0 });
+            StringsReply::Strings { bytes, strings }
+        }
+        StringsReply::Error(e) => StringsReply::Error(e),
+    }
+}
