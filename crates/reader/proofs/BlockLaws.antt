@@ -1,15 +1,16 @@
 -- The equations of `blocksFrom`: above them nothing looks at its count; and the loop that counts the blocks of a region.
 -- Assumes nothing.
-use mathlib.Core.Path.{_≡_, refl, sym, _∙_}
+use mathlib.Core.Path.{_≡_, refl, sym, ap, _∙_}
 use mathlib.Core.List.{List}
 use Prim.Native.Nat.{ℕ, zero, suc, _+_, _-_, _*_, _/_, _≤_, _<_}
 use native.Mathlib.Nat.{le-trans, mul-le-mul-right}
 use native.Mathlib.Omega.{arith}
 use borrow.Author.Tests.{le-leb, lt-leb, leb-true}
 use lib.Dec.{leb}
-use Rattle.text.specs.Result.{ok, error}
+use Rattle.text.specs.Result.{Result, ok, error, check, _>>_}
 use Rattle.text.proofs.TestLaws.{either}
-use Rattle.reader.specs.Blocks.{blockEnd, nextBlock, blocksCount, blocksFrom, blocks, IsRegion}
+use Rattle.text.proofs.ResultLaws.{check-passed}
+use Rattle.reader.specs.Blocks.{blockEnd, nextBlock, blockAt, blocksCount, blocksFrom, blocks, IsRegion}
 use Rattle.reader.specs.Replies.{blockCountOf}
 use Rattle.reader.specs.declared.blocks.BlockCount.the-variants as count
 
@@ -56,6 +57,38 @@ module _ (size : ℕ) (b : List ℕ) where
     pub blocks-cut : e < blockEnd size b i → blocksFrom size b i e n ≡ error (record { number = 7; place = i })
     unfolding blocksFrom blocksCount
     blocks-cut k = rw more (simp (le-leb (i + 4) e h, lt-leb (blockEnd size b i) e k))
+
+  -- block k + 1 from i on is block k from the next block on
+  blockAt-next : (i k : ℕ) → blockAt size b i (suc k) ≡ blockAt size b (nextBlock size b i) k
+  unfolding blockAt
+  blockAt-next i zero = refl
+  blockAt-next i (suc k) = ap (nextBlock size b) (blockAt-next i k)
+
+  -- where more than m blocks are counted, block m lies before e
+  count-more : (f i e m n : ℕ) → blocksCount (suc f) size b i e m ≡ ok n → m < n → (blockEnd size b i ≤ e) × (blocksCount f size b (nextBlock size b i) e (m + 1) ≡ ok n)
+  unfolding blocksCount
+  count-more f i e m n w h =
+      either (leb (i + 4) e)
+      (λ t. let p = check-passed 7 (leb (blockEnd size b i) e) i (blocksCount f size b (nextBlock size b i) e (m + 1)) (rw t at w) in
+      (leb-true (blockEnd size b i) e (p .0), p .1))
+      (λ t. let v : _≡_ {A = Result ℕ} (ok m) (ok n) = rw t at w in
+      let z : m ≡ n = cc in
+      absurd (omega arith))
+
+  count-inside : (f i e m n k : ℕ) → blocksCount f size b i e m ≡ ok n → m + k < n → blockEnd size b (blockAt size b i k) ≤ e
+  unfolding blocksCount blockAt
+  count-inside zero i e m n k w h =
+      let z : m ≡ n = cc in
+      absurd (omega arith)
+  count-inside (suc f) i e m n zero w h = (count-more f i e m n w (omega arith)) .0
+  count-inside (suc f) i e m n (suc k) w h =
+      rw (blockAt-next i k)
+      (count-inside f (nextBlock size b i) e (m + 1) n k ((count-more f i e m n w (omega arith)) .1) (omega arith))
+
+  -- where check 7 holds for n blocks, each of them lies in its region
+  pub blocks-inside : (i e : ℕ) {n : ℕ} → blocks size b i e ≡ ok n → (k : ℕ) → k < n → blockEnd size b (blockAt size b i k) ≤ e
+  unfolding blocksFrom
+  blocks-inside i e {n} w k h = count-inside (e - i) i e 0 n k w (omega arith)
 
 -- n blocks begin before i
 pub record Counting (size : ℕ) (b : List ℕ) (start e n i : ℕ) : Type 0 where
