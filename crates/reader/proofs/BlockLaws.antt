@@ -1,18 +1,21 @@
--- The equations of `blocksFrom`: above them nothing looks at its count; and the loop that counts the blocks of a region.
+-- The equations of `blocksFrom`: above them nothing looks at its count; the loop that counts the blocks of a region, and the walk to one.
 -- Assumes nothing.
 use mathlib.Core.Path.{_≡_, refl, sym, ap, _∙_}
 use mathlib.Core.List.{List}
 use Prim.Native.Nat.{ℕ, zero, suc, _+_, _-_, _*_, _/_, _≤_, _<_}
 use native.Mathlib.Nat.{le-trans, mul-le-mul-right}
+use native.Mathlib.Numerals.{add-one}
 use native.Mathlib.Omega.{arith}
 use borrow.Author.Tests.{le-leb, lt-leb, leb-true}
 use lib.Dec.{leb}
+use lib.ListN.{length}
 use Rattle.text.specs.Result.{Result, ok, error, check, _>>_}
 use Rattle.text.proofs.TestLaws.{either}
 use Rattle.text.proofs.ResultLaws.{check-passed}
-use Rattle.reader.specs.Blocks.{blockEnd, nextBlock, blockAt, blocksCount, blocksFrom, blocks, IsRegion}
+use Rattle.reader.specs.Blocks.{blockEnd, nextBlock, blockAt, blocksCount, blocksFrom, blocks, HasBlock, IsCursor, cursorAt, behindBlock, IsRegion}
 use Rattle.reader.specs.Replies.{blockCountOf}
 use Rattle.reader.specs.declared.blocks.BlockCount.the-variants as count
+use Rattle.reader.specs.declared.blocks.Cursor.{Cursor}
 
 module _ (size : ℕ) (b : List ℕ) where
   pub next-after : (i : ℕ) → blockEnd size b i ≤ nextBlock size b i
@@ -118,3 +121,44 @@ module _ {size : ℕ} {b : List ℕ} {start e : ℕ} (region : IsRegion b start 
 -- the entries of a block take no more than 64 bits
 pub entries-fit : {size v : ℕ} → size ≤ 12 → v < 4294967296 → size * v ≤ 51539607540
 entries-fit {size} {v} h k = le-trans (mul-le-mul-right v h) (omega arith)
+
+-- ---- the walk to a block
+
+pub behind-here : (start k : ℕ) (c : Cursor) → c .block ≤ k → c ≡ behindBlock start c k
+behind-here start k c h = simp (le-leb (c .block) k h)
+
+pub behind-start : (start k : ℕ) (c : Cursor) → k < c .block → record { block = 0; at = start } ≡ behindBlock start c k
+behind-start start k c h = simp (lt-leb (c .block) k h)
+
+-- the walk stands at block k, which is not past the one that is looked for
+pub record Walking (size : ℕ) (b : List ℕ) (start block k i : ℕ) : Type 0 where
+  pub bound : k ≤ block
+  pub is : i ≡ blockAt size b start k
+
+module _ {size : ℕ} {b : List ℕ} {start block : ℕ} (has : HasBlock size b start block) where
+  pub walk-start : {c r : Cursor} → IsCursor size b start c → r ≡ behindBlock start c block → Walking size b start block (r .block) (r .at)
+  unfolding blockAt
+  walk-start {c} {r} i e =
+      either (leb (c .block) block)
+      (λ t. rw (simp t at e) (record { bound = leb-true (c .block) block t; is = i .is }))
+      (λ t. rw (simp t at e) (record { bound = omega arith; is = refl }))
+
+  module _ {k i : ℕ} (w : Walking size b start block k i) where
+    here : k ≤ block → blockEnd size b i ≤ length b
+    here h = rw (w .is) (has .inside k h)
+
+    pub walk-read : k < block → i + 4 ≤ length b
+    walk-read h = omega (arith, here (omega arith))
+
+    pub walk-round : k < block → {l : ℕ} → l ≡ blockEnd size b i → l ≤ 16777216
+    walk-round h e = omega (arith, here (omega arith), has .most)
+
+    pub walk-turn : k < block → {l r : ℕ} → l ≡ blockEnd size b i → r ≡ (l + 7) / 8 * 8 → Walking size b start block (k + 1) r
+    unfolding blockAt nextBlock
+    walk-turn h {l} {r} e n =
+        record { bound = omega arith; is = rw (n, e, w .is, add-one) }
+
+    pub walk-last : block ≤ k → record { block = k; at = i } ≡ cursorAt size b start block
+    walk-last h =
+        let z : k ≡ block = omega (arith, w .bound) in
+        rw (w .is, z)

@@ -21,7 +21,7 @@ use Rattle.text.proofs.TestLaws.{either}
 use Rattle.reader.specs.Blocks.{blocks}
 use Rattle.reader.specs.Names.{nameBytes, HasName, IsName, InBlob}
 use Rattle.reader.specs.Opening.{declaredNames, offset, offsets, isWithin, isOrdered, pieceCount, fileWrapper, regions, opened, Opens}
-use Rattle.reader.specs.Queries.{intoText, nameText}
+use Rattle.reader.specs.Queries.{intoOutput, nameText}
 use Rattle.reader.specs.Replies.{parseReplyOf, WritesText}
 use Rattle.reader.specs.declared.file_wrapper.FileWrapper.{FileWrapper}
 use Rattle.reader.specs.declared.file_wrapper.ParseReply.{ParseReply}
@@ -58,6 +58,8 @@ opens b w e =
       inside = leb-true (offset b 4) (length b) (checkEach-passed 3 (isWithin b) 0 8 (p3 .1 .0) 4 (omega arith) (omega arith));
       class-entries = refl;
       object-records = refl;
+      saveobj-blocks = p7 .1 .0;
+      normalobj-blocks = p8 .1 .0;
     })
   where
     up : {u : Unit {0}} → checkEach 5 (isOrdered b) 1 8 ≡ ok u → (k : ℕ) → 1 ≤ k → k < 8 → offset b (k - 1) ≤ offset b k
@@ -111,7 +113,7 @@ module _ (s text : List ℕ) {x : LossyReply} {text' : List ℕ} (l : WritesLoss
       record { reply = simp t (ap (λ (p : ℕ). error (record { number = 34; place = p })) z); buffer = simp t (simp t at (l .buffer)) })
 
 -- a call that writes a text keeps the buffer's length
-same-by : (m : Result (List ℕ)) (text text' : List ℕ) → text' ≡ overwritten (λ t. t) (intoText m (length text)) text → length text' ≡ length text
+same-by : (m : Result (List ℕ)) (text text' : List ℕ) → text' ≡ overwritten (λ t. t) (intoOutput m (length text)) text → length text' ≡ length text
 same-by (error e) text text' w = ap length w
 same-by (ok t) text text' w =
     either (leb (length t) (length text))

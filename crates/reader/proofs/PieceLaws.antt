@@ -5,13 +5,13 @@ use mathlib.Core.List.{List, [], _∷_, _++_, append-nil}
 use Prim.Native.Nat.{ℕ, suc, _+_, _-_, _≤_, _<_}
 use native.Mathlib.Numerals.{add-one}
 use native.Mathlib.Omega.{arith}
-use borrow.Author.Tests.{eq-eqb, ne-eqb, ltb-true, ltb-false}
-use lib.Dec.{eqb, ltb}
-use lib.ListN.{length, getD}
-use lib.Seq.{slice, slice-cons, slice-empty, append-snoc}
+use borrow.Author.Tests.{eq-eqb, ne-eqb, ltb-true, ltb-false, le-leb, lt-leb, leb-true}
+use lib.Dec.{eqb, leb, ltb}
+use lib.ListN.{length, getD, drop, length-drop}
+use lib.Seq.{slice, slice-cons, slice-empty, append-snoc, drop-cons, getD-drop, drop-drop}
 use Rattle.text.proofs.BufferLaws.{slice-more}
 use Rattle.text.proofs.TestLaws.{either}
-use Rattle.reader.specs.Names.{onto, pieces, heapOf, nameBytes, HasPiece, Starts, FirstPiece, HasName, IsName}
+use Rattle.reader.specs.Names.{onto, pieces, piecesFrom, heapOf, nameBytes, HasPiece, Starts, FirstPiece, HasName, IsName}
 
 length-onto : (x : ℕ) (ps : List (List ℕ)) → 1 ≤ length ps → length (onto x ps) ≡ length ps
 length-onto x [] h = absurd (omega arith)
@@ -81,10 +81,6 @@ pub record Seeking (b : List ℕ) (e index k i : ℕ) : Type 0 where
 onto-later : (x : ℕ) (ps : List (List ℕ)) (j : ℕ) → 1 ≤ length ps → getD (onto x ps) (suc j) [] ≡ getD ps (suc j) []
 onto-later x [] j h = absurd (omega arith)
 onto-later x (p ∷ ps) j h = refl
-
-onto-first : (x : ℕ) (ps : List (List ℕ)) → 1 ≤ length ps → getD (onto x ps) 0 [] ≡ x ∷ getD ps 0 []
-onto-first x [] h = absurd (omega arith)
-onto-first x (p ∷ ps) h = refl
 
 module _ {b : List ℕ} {e index : ℕ} where
   pub seek-start : HasPiece b e index → Seeking b e index 1 40
@@ -161,46 +157,60 @@ module _ {b : List ℕ} {e index : ℕ} where
 
 -- ---- where a piece ends
 
+-- bytes before the first piece
+abbrev pub ahead : List ℕ → List (List ℕ) → List (List ℕ)
+ahead xs ps = (xs ++ getD ps 0 []) ∷ drop 1 ps
+
+ahead-onto : (xs : List ℕ) (x : ℕ) (ps : List (List ℕ)) → ahead xs (onto x ps) ≡ ahead (xs ++ x ∷ []) ps
+ahead-onto xs x [] = rw append-nil
+ahead-onto xs x (p ∷ ps) = rw append-snoc
+
 -- no zero byte from start up to i
 pub record Running (b : List ℕ) (start e i : ℕ) : Type 0 where
   pub inside : e ≤ length b
   pub order : start ≤ i
   pub bound : i ≤ e
-  pub is : getD (pieces (slice start e b)) 0 [] ≡ slice start i b ++ getD (pieces (slice i e b)) 0 []
+  pub is : pieces (slice start e b) ≡ ahead (slice start i b) (pieces (slice i e b))
 
 module _ {b : List ℕ} {start e : ℕ} where
   pub run-start : (start ≤ e) × (e ≤ length b) → Running b start e start
-  run-start h = record { inside = h .1; order = omega arith; bound = h .0; is = rw (slice-empty start b) }
+  run-start h = record {
+    inside = h .1;
+    order = omega arith;
+    bound = h .0;
+    is = rw (slice-empty start b) (drop-cons (pieces (slice start e b)) 0 [] (pieces-some (slice start e b)));
+  }
 
   module _ {i : ℕ} (r : Running b start e i) where
     pub run-byte : i < e → (getD b i 0 ≡ 0 → ⊥) → Running b start e (i + 1)
     run-byte h z =
-        let q : pieces (slice i e b) ≡ onto (getD b i 0) (pieces (slice (i + 1) e b)) =
-        ap pieces (one-byte b i e h (r .inside)) ∙ pieces-byte (getD b i 0) (slice (i + 1) e b) z in
-        let f : getD (pieces (slice i e b)) 0 [] ≡ getD b i 0 ∷ getD (pieces (slice (i + 1) e b)) 0 [] =
-        ap (λ (ps : List (List ℕ)). getD ps 0 []) q ∙ onto-first (getD b i 0) (pieces (slice (i + 1) e b)) (pieces-some (slice (i + 1) e b)) in
+        let s : List ℕ = slice start i b in
+        let ps : List (List ℕ) = pieces (slice (i + 1) e b) in
         record {
           inside = r .inside;
           order = omega (arith, r .order);
           bound = omega arith;
           is =
               r .is
-              ∙ ap (λ (x : List ℕ). slice start i b ++ x) f
-              ∙ sym (append-snoc (slice start i b) (getD b i 0) (getD (pieces (slice (i + 1) e b)) 0 []))
-              ∙ ap (λ (x : List ℕ). x ++ getD (pieces (slice (i + 1) e b)) 0 []) (sym (slice-more b start i (r .order) (omega (arith, r .inside))));
+              ∙ ap (λ (xs : List ℕ). ahead s (pieces xs)) (one-byte b i e h (r .inside))
+              ∙ ap (ahead s) (pieces-byte (getD b i 0) (slice (i + 1) e b) z)
+              ∙ ahead-onto s (getD b i 0) ps
+              ∙ ap (λ (x : List ℕ). ahead x ps) (sym (slice-more b start i (r .order) (omega (arith, r .inside))));
         }
 
-    ends : getD (pieces (slice i e b)) 0 [] ≡ [] → FirstPiece b start e i
-    ends z = record { order = r .order; inside = r .bound; is = sym (r .is ∙ ap (λ (x : List ℕ). slice start i b ++ x) z ∙ append-nil (slice start i b)) }
+    ends : pieces (slice i e b) ≡ [] ∷ piecesFrom b e (i + 1) → FirstPiece b start e i
+    ends z = record { order = r .order; inside = r .bound; is = r .is ∙ ap (ahead (slice start i b)) z ∙ rw append-nil }
 
     pub run-zero : i < e → getD b i 0 ≡ 0 → FirstPiece b start e i
-    run-zero h z = ends (ap (λ (ps : List (List ℕ)). getD ps 0 []) (ap pieces (one-byte b i e h (r .inside)) ∙ pieces-zero (getD b i 0) (slice (i + 1) e b) z))
+    unfolding piecesFrom
+    run-zero h z =
+        ends (simp (le-leb (i + 1) e (omega arith)) (ap pieces (one-byte b i e h (r .inside)) ∙ pieces-zero (getD b i 0) (slice (i + 1) e b) z))
 
     pub run-last : e ≤ i → FirstPiece b start e i
-    unfolding pieces
+    unfolding pieces piecesFrom
     run-last h =
         let z : i ≡ e = omega (arith, r .bound) in
-        ends (ap (λ (j : ℕ). getD (pieces (slice j e b)) 0 []) z ∙ ap (λ (xs : List ℕ). getD (pieces xs) 0 []) (slice-empty e b))
+        ends (simp (lt-leb (i + 1) e (omega arith)) (rw (z, slice-empty e b)))
 
 -- ---- a name
 
@@ -215,4 +225,35 @@ module _ {b : List ℕ} {e index : ℕ} (n : HasName b e index) where
 
     pub name-found : {i j : ℕ} → Starts b e index i → FirstPiece b i e j → IsName b e index (record { start = i; end = j })
     unfolding nameBytes
-    name-found s f = record { order = f .order; inside = omega (arith, f .inside, n .inside); is = f .is ∙ s .is ∙ sym (simp (ne-eqb index 0 some)) }
+    name-found s f = record { order = f .order; inside = omega (arith, f .inside, n .inside); is = sym (ap (λ (ps : List (List ℕ)). getD ps 0 []) (f .is)) ∙ s .is ∙ sym (simp (ne-eqb index 0 some)) }
+
+-- ---- walking the heap
+
+-- piece j + 1, where there is one, begins at start
+pub record Standing (b : List ℕ) (e j start : ℕ) : Type 0 where
+  pub rest : piecesFrom b e start ≡ drop j (pieces (heapOf b e))
+
+module _ {b : List ℕ} {e : ℕ} where
+  pub stand-start : 40 ≤ e → Standing b e 0 40
+  unfolding piecesFrom
+  stand-start h = record { rest = simp (le-leb 40 e h) }
+
+  module _ {j start : ℕ} (s : Standing b e j start) (h : j < length (pieces (heapOf b e))) where
+    pub stand-inside : start ≤ e
+    unfolding piecesFrom
+    stand-inside =
+        either (leb start e) (λ t. leb-true start e t) (λ t. absurd (omega (arith, ap length (simp t at (s .rest)), length-drop j (pieces (heapOf b e)))))
+
+    module _ {i : ℕ} (f : FirstPiece b start e i) where
+      here : slice start i b ∷ piecesFrom b e (i + 1) ≡ drop j (pieces (heapOf b e))
+      unfolding piecesFrom
+      here = sym (f .is) ∙ simp (le-leb start e stand-inside) at (s .rest)
+
+      pub stand-name : slice start i b ≡ nameBytes b e (j + 1)
+      unfolding nameBytes
+      stand-name =
+          let z : j + 1 - 1 ≡ j + 0 = omega arith in
+          simp (ne-eqb (j + 1) 0 (λ q. omega arith), z) (ap (λ (ps : List (List ℕ)). getD ps 0 []) here ∙ getD-drop j (pieces (heapOf b e)) 0 [])
+
+      pub stand-next : Standing b e (j + 1) (i + 1)
+      stand-next = record { rest = ap (drop 1) here ∙ drop-drop 1 j (pieces (heapOf b e)) }

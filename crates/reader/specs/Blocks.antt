@@ -2,12 +2,14 @@
 -- while 4 bytes remain." The size of an entry is an argument: 12 for triples.
 -- Assumes nothing.
 use Prim.Native.Nat.{ℕ, zero, suc, _+_, _-_, _*_, _/_, _≤_}
+use mathlib.Core.Path.{_≡_}
 use mathlib.Core.Bool.{cond}
 use mathlib.Core.List.{List}
 use lib.Dec.{leb}
 use lib.ListN.{length}
 use Rattle.text.specs.Result.{Result, ok, check, _>>_}
 use Rattle.reader.specs.Wire.{u32At}
+use Rattle.reader.specs.declared.blocks.Cursor.{Cursor}
 
 -- the end of the block at i, and where the next one may begin
 abbrev pub blockEnd : ℕ → List ℕ → ℕ → ℕ
@@ -33,6 +35,24 @@ blocksFrom size b i e n = blocksCount (e - i) size b i e n
 
 abbrev pub blocks : ℕ → List ℕ → ℕ → ℕ → Result ℕ
 blocks size b i e = blocksFrom size b i e 0
+
+-- blocks 0 to k of the region that begins at start are whole
+pub record HasBlock (size : ℕ) (b : List ℕ) (start k : ℕ) : Type 0 where
+  pub most : length b ≤ 16777216
+  pub small : size ≤ 12
+  pub inside : (j : ℕ) → j ≤ k → blockEnd size b (blockAt size b start j) ≤ length b
+
+-- a cursor stands at the block that it names
+pub record IsCursor (size : ℕ) (b : List ℕ) (start : ℕ) (c : Cursor) : Type 0 where
+  pub is : c .at ≡ blockAt size b start (c .block)
+
+-- the cursor at block k
+abbrev pub cursorAt : ℕ → List ℕ → ℕ → ℕ → Cursor
+cursorAt size b start k = record { block = k; at = blockAt size b start k }
+
+-- the cursor, or the region's start where the cursor is past block k
+abbrev pub behindBlock : ℕ → Cursor → ℕ → Cursor
+behindBlock start c k = cond (leb (c .block) k) c (record { block = 0; at = start })
 
 -- the bytes from i up to e are a region of the blob, and entries are small enough for its sums
 pub record IsRegion (b : List ℕ) (i e size : ℕ) : Type 0 where

@@ -1,5 +1,8 @@
 pub mod Blocks
+pub mod Lines
 pub mod Names
+pub mod ObjectStages
+pub mod Objects
 pub mod Opaque
 pub mod Opening
 pub mod Queries

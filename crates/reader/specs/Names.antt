@@ -1,10 +1,10 @@
 -- The name heap.
 -- Assumes nothing.
-use Prim.Native.Nat.{ℕ, _-_, _≤_}
+use Prim.Native.Nat.{ℕ, _+_, _-_, _≤_}
 use mathlib.Core.Path.{_≡_}
 use mathlib.Core.Bool.{cond}
 use mathlib.Core.List.{List, [], _∷_}
-use lib.Dec.{eqb}
+use lib.Dec.{leb, eqb}
 use lib.ListN.{length, getD}
 use lib.Seq.{slice}
 use Rattle.text.specs.Utf8.{lossy}
@@ -19,6 +19,10 @@ onto x (p ∷ ps) = (x ∷ p) ∷ ps
 unfoldable pub pieces : List ℕ → List (List ℕ)
 pieces [] = [] ∷ []
 pieces (x ∷ xs) = cond (eqb x 0) ([] ∷ pieces xs) (onto x (pieces xs))
+
+-- the pieces from byte i up to end, none past it
+unfoldable pub piecesFrom : List ℕ → ℕ → ℕ → List (List ℕ)
+piecesFrom b end i = cond (leb i end) (pieces (slice i end b)) []
 
 -- "The name heap is bytes 40 to offset 0"
 abbrev pub heapOf : List ℕ → ℕ → List ℕ
@@ -47,11 +51,11 @@ pub record Starts (b : List ℕ) (end index i : ℕ) : Type 0 where
   pub after : 40 ≤ i
   pub is : getD (pieces (slice i end b)) 0 [] ≡ getD (pieces (heapOf b end)) (index - 1) []
 
--- the first piece from start on ends at i
+-- the first piece from start on ends at i, and the next one begins after it
 pub record FirstPiece (b : List ℕ) (start end i : ℕ) : Type 0 where
   pub order : start ≤ i
   pub inside : i ≤ end
-  pub is : slice start i b ≡ getD (pieces (slice start end b)) 0 []
+  pub is : pieces (slice start end b) ≡ slice start i b ∷ piecesFrom b end (i + 1)
 
 -- name index is the empty name or a piece of the heap
 pub record HasName (b : List ℕ) (end index : ℕ) : Type 0 where

@@ -99,3 +99,5 @@ pub record Opens (b : List ℕ) (w : FileWrapper) : Type 0 where
   pub inside : w .offsets .o4 ≤ length b
   pub class-entries : w .classes ≡ (w .offsets .o1 - w .offsets .o0) / 16
   pub object-records : w .records ≡ (w .offsets .o3 - w .offsets .o2) / 24
+  pub saveobj-blocks : blocks 12 b (w .offsets .o1) (w .offsets .o2) ≡ ok (w .«saveobj_blocks»)
+  pub normalobj-blocks : blocks 12 b (w .offsets .o3) (w .offsets .o4) ≡ ok (w .«normalobj_blocks»)

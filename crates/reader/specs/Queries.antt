@@ -13,12 +13,12 @@ use Rattle.reader.specs.declared.file_wrapper.FileWrapper.{FileWrapper}
 use Rattle.reader.specs.declared.records.ClassEntry.{ClassEntry}
 use Rattle.reader.specs.declared.records.ObjectRecord.{ObjectRecord}
 
--- "Called alone, each ends with 34": a text for an output of `room` bytes
-abbrev pub intoText : Result (List ℕ) → ℕ → Result (List ℕ)
-intoText m room = do
-  text ← m
-  checkOutput (length text) room
-  ok text
+-- "Called alone, each ends with 34": a text, or rows, for an output of this length
+abbrev pub intoOutput : {A : Type 0} → Result (List A) → ℕ → Result (List A)
+intoOutput m room = do
+  out ← m
+  checkOutput (length out) room
+  ok out
 
 -- 11: "Is the name index at most the number of names? Place: index."
 abbrev pub checkName : FileWrapper → ℕ → Result (Unit {0})

@@ -2,11 +2,13 @@
 -- Assumes nothing.
 use Prim.Native.Nat.{ℕ}
 use mathlib.Core.Path.{_≡_}
-use mathlib.Core.List.{List}
+use mathlib.Core.List.{List, map}
+use mathlib.Core.Option.{Option, some, none}
 use lib.ListN.{length}
 use Rattle.text.specs.Errors.{failureOf}
 use Rattle.text.specs.Result.{Result, ok, error, mapResult, overwritten}
-use Rattle.reader.specs.Queries.{intoText}
+use Rattle.reader.specs.Objects.{rowOf}
+use Rattle.reader.specs.Queries.{intoOutput}
 use Rattle.reader.specs.declared.file_wrapper.FileWrapper.{FileWrapper}
 use Rattle.reader.specs.declared.file_wrapper.ParseReply.{ParseReply}
 use Rattle.reader.specs.declared.file_wrapper.ParseReply.the-variants as parse
@@ -14,8 +16,13 @@ use Rattle.reader.specs.declared.file_wrapper.Checked.{Checked}
 use Rattle.reader.specs.declared.file_wrapper.Checked.the-variants as checked
 use Rattle.reader.specs.declared.blocks.BlockCount.{BlockCount}
 use Rattle.reader.specs.declared.blocks.BlockCount.the-variants as count
+use Rattle.reader.specs.declared.find.FindReply.{FindReply}
+use Rattle.reader.specs.declared.find.FindReply.the-variants as find
 use Rattle.reader.specs.declared.names.NameReply.{NameReply}
 use Rattle.reader.specs.declared.names.NameReply.the-variants as name
+use Rattle.reader.specs.declared.properties.PropertiesReply.{PropertiesReply}
+use Rattle.reader.specs.declared.properties.PropertiesReply.the-variants as properties
+use Rattle.reader.specs.declared.records.Triple.{Triple}
 
 abbrev pub parseReplyOf : ParseReply → Result FileWrapper
 parseReplyOf (parse.Parsed w) = ok w
@@ -37,5 +44,21 @@ nameReplyOf (name.Error e) = error (failureOf e)
 
 -- a call that writes the text that a query comes to
 pub record WritesText (m : Result (List ℕ)) (text : List ℕ) (r : NameReply) (text' : List ℕ) : Type 0 where
-  pub reply : nameReplyOf r ≡ mapResult length (intoText m (length text))
-  pub buffer : text' ≡ overwritten (λ t. t) (intoText m (length text)) text
+  pub reply : nameReplyOf r ≡ mapResult length (intoOutput m (length text))
+  pub buffer : text' ≡ overwritten (λ t. t) (intoOutput m (length text)) text
+
+-- how many rows there are, or the refusal
+abbrev pub propertiesReplyOf : PropertiesReply → Result ℕ
+propertiesReplyOf (properties.Rows n) = ok n
+propertiesReplyOf (properties.Error e) = error (failureOf e)
+
+-- a call that writes a row for each of the triples that a query comes to
+pub record WritesRows (m : Result (List Triple)) (rows : List (List ℕ)) (r : PropertiesReply) (rows' : List (List ℕ)) : Type 0 where
+  pub reply : propertiesReplyOf r ≡ mapResult length (intoOutput m (length rows))
+  pub buffer : rows' ≡ overwritten (map rowOf) (intoOutput m (length rows)) rows
+
+-- the position of a property, that there is none, or the refusal
+abbrev pub findReplyOf : FindReply → Result (Option ℕ)
+findReplyOf (find.Found i) = ok (some i)
+findReplyOf find.NotFound = ok none
+findReplyOf (find.Error e) = error (failureOf e)

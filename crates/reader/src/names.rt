@@ -57,7 +57,7 @@ fn piece_start(blob: &[u8], end: usize, index: usize) -> usize
 }
 
 // Where the piece that begins at start ends: at the first zero byte, or at the end of the heap.
-fn piece_end(blob: &[u8], start: usize, end: usize) -> usize
+pub(crate) fn piece_end(blob: &[u8], start: usize, end: usize) -> usize
     requires { ⌜ (start ≤ end) × (end ≤ length (now blob)) ⌝ }
     ensures { λ r. ⌜ FirstPiece (now (blob .entry)) start end r ⌝ }
 {

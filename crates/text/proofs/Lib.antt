@@ -8,6 +8,7 @@ pub mod MaximalSubpart
 pub mod PartLaws
 pub mod ProductLaws
 pub mod ResultLaws
+pub mod SameLaws
 pub mod ScalarLaws
 pub mod StepLaws
 pub mod TestLaws

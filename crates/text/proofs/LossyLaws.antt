@@ -50,7 +50,7 @@ module _ (s : List ℕ) (i : ℕ) {x : Step} (e : x ≡ stepAt s i) where
       let p = parts-ill-formed s i (sym e ∙ g) in
       record { advance = step-breaks s i (sym e ∙ g) .advance; scalar = refl; parts = rw p; count = rw p (omega arith) }
 
-  nothing-left : x ≡ End → partsFrom s i ≡ []
+  pub nothing-left : x ≡ End → partsFrom s i ≡ []
   nothing-left g = parts-end s i (step-end s i (sym e ∙ g))
 
 pub replacement-size : length (utf8 0xFFFD) ≡ 3

@@ -144,3 +144,10 @@ module _ (n : ℕ) (holds : ℕ → Bool) (from e : ℕ) where
 
     pub checks-last : e ≤ i → checkEach n holds from e ≡ ok tt
     checks-last h = c .rest ∙ checkEach-done n holds i e h
+
+-- checks before a value: what fails is one of them
+pub seq-failed : {A B : Type 0} (m : Result A) (b : B) {n : Failure} → (m >> ok b) ≡ error n → m ≡ error n
+seq-failed (ok a) b {n} e =
+    let z : _≡_ {A = ℕ} 0 1 = cc in
+    absurd (omega arith)
+seq-failed (error f) b e = cc

@@ -1,11 +1,18 @@
--- A list written into another from an index on.
+-- Lists of bytes: whether two are the same, and one written into another from an index on.
 -- Assumes nothing.
 use Prim.Native.Nat.{ℕ, _+_}
 use mathlib.Core.Path.{_≡_}
-use mathlib.Core.Bool.{cond}
+use mathlib.Core.Bool.{Bool, true, false, cond, _&&_}
 use mathlib.Core.List.{List, [], _∷_, _++_}
-use lib.Dec.{leb}
+use lib.Dec.{leb, eqb}
 use lib.ListN.{length, take, drop}
+
+-- the same bytes
+unfoldable pub same : List ℕ → List ℕ → Bool
+same [] [] = true
+same [] (y ∷ ys) = false
+same (x ∷ xs) [] = false
+same (x ∷ xs) (y ∷ ys) = eqb x y && same xs ys
 
 -- d with w from index i on
 unfoldable pub put : List ℕ → ℕ → List ℕ → List ℕ

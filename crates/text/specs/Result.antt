@@ -63,6 +63,6 @@ abbrev pub checkOutput : ℕ → ℕ → Result (Unit {0})
 checkOutput need room = check 34 (leb need room) (needPlace need)
 
 -- what an output buffer holds after a call: its part of the value over its front and the rest kept, or all of it kept
-abbrev pub overwritten : {A : Type 0} → (A → List ℕ) → Result A → List ℕ → List ℕ
+abbrev pub overwritten : {A B : Type 0} → (A → List B) → Result A → List B → List B
 overwritten f (ok a) old = f a ++ drop (length (f a)) old
 overwritten f (error e) old = old

@@ -2,7 +2,7 @@
 -- Assumes nothing.
 use Prim.Native.Nat.{ℕ, zero, suc, _+_, _-_, _*_, _%_, _≤_, _<_, max}
 use mathlib.Core.Path.{_≡_}
-use mathlib.Core.Bool.{Bool, true, cond, _&&_}
+use mathlib.Core.Bool.{Bool, true, false, cond, _&&_}
 use mathlib.Core.List.{List, [], _∷_, _++_, map}
 use mathlib.Core.Option.{Option, some, none, Option·map}
 use lib.Dec.{leb, ltb, eqb}
@@ -89,6 +89,12 @@ stepAt s i =
     cond (ltb i (length s))
     (cond (wholeAt s i) (Scalar (valueAt s i (matched s i)) (nextAt s i)) (IllFormed (nextAt s i)))
     End
+
+-- a step found the scalar value v
+unfoldable pub stepHas : Step → ℕ → Bool
+stepHas (Scalar w n) v = eqb w v
+stepHas (IllFormed n) v = false
+stepHas End v = false
 
 -- The Standard's own words for what a step finds; that `stepAt` finds it is proved in proofs/MaximalSubpart.antt.
 -- w begins a well-formed sequence

@@ -54,7 +54,7 @@ pub length-region : (r : Region) (n : ℕ) → length (region r n) ≡ 4 * lengt
 unfolding region
 length-region r n = simp (length-append, length-u32s, length-entries)
 
-entries-split : (r : Region) (k i m : ℕ) → entriesFrom r k (i + m) ≡ entriesFrom r k i ++ entriesFrom r (k + i) m
+pub entries-split : (r : Region) (k i m : ℕ) → entriesFrom r k (i + m) ≡ entriesFrom r k i ++ entriesFrom r (k + i) m
 unfolding entriesFrom
 entries-split r k zero m = simp (zero-add, add-zero)
 entries-split r k (suc i) m =

@@ -1,15 +1,18 @@
--- What stands end to end stands where its offsets say: the regions of the metadata blob, and the payloads of arrays.
+-- What stands end to end stands where its offsets say: the regions of the metadata blob and their entries, and the payloads of arrays.
 -- Assumes nothing.
 use mathlib.Core.Path.{_≡_, refl, sym, ap, _∙_}
 use mathlib.Core.List.{List, [], _∷_, _++_, append-assoc, flatMap}
-use Prim.Native.Nat.{ℕ, zero, suc, _+_, _*_, _≤_, _<_}
+use Prim.Native.Nat.{ℕ, zero, suc, _+_, _-_, _*_, _≤_, _<_}
+use native.Mathlib.Nat.{zero-add, suc-add}
 use native.Mathlib.Omega.{arith}
 use lib.ListN.{length, getD, take, drop, length-append}
-use lib.Seq.{slice, take-at, drop-at}
+use lib.Seq.{slice, take-at, drop-at, take-nil, drop-nil, take-take}
 use Rattle.writer.specs.Array.{Array, payload, payloads, payloadSpans}
-use Rattle.writer.specs.FileWrapper.{u32s, nameHeap, regions, offsetsFrom, fileWrapper}
+use Rattle.writer.specs.FileWrapper.{u32s, nameHeap, classEntries, entry, zeroEntry, entriesFrom, region, regions, offsetsFrom, fileWrapper}
 use Rattle.writer.specs.Spans.{stringAt}
-use Rattle.writer.proofs.FileWrapperLaws.{sizes}
+use Rattle.writer.specs.declared.file_wrapper.Region.{Region}
+use Rattle.writer.specs.declared.file_wrapper.Region.the-variants.{SavedBlocks, Objects}
+use Rattle.writer.proofs.FileWrapperLaws.{length-u32s, entrySize, length-entries, entries-split, offsets-are, sizes}
 
 part-at : (p q r : List ℕ) (a e : ℕ) → length p ≡ a → a + length q ≡ e → slice a e (p ++ (q ++ r)) ≡ q
 part-at p q r a e h k =
@@ -45,6 +48,86 @@ file-regions n k h =
     ap (λ (x : List ℕ). slice (getD (offsetsFrom 56 (regions n)) k 0) (getD (offsetsFrom 56 (regions n)) (suc k) 0) x)
     (sym (append-assoc w nameHeap (flatMap (λ r. r) (regions n))))
     ∙ regions-from (w ++ nameHeap) 56 (regions n) (length-append w nameHeap ∙ ap (λ (m : ℕ). m + 16) (sizes n .offsets)) k h
+
+-- a region ends where the next one begins
+pub offset-next : (o : ℕ) (rs : List (List ℕ)) (k : ℕ) → k < length rs
+    → getD (offsetsFrom o rs) (suc k) 0 ≡ getD (offsetsFrom o rs) k 0 + length (getD rs k [])
+unfolding offsetsFrom
+offset-next o [] k h = absurd (omega arith)
+offset-next o (r ∷ rs) zero h = first-offset (o + length r) rs
+offset-next o (r ∷ rs) (suc k) h = offset-next (o + length r) rs k (omega arith)
+
+-- what stands before the regions
+pub file-words : (n : ℕ) → slice 0 40 (fileWrapper n) ≡ u32s (4 ∷ 2 ∷ offsetsFrom 56 (regions n))
+unfolding fileWrapper
+file-words n = take-at (u32s (4 ∷ 2 ∷ offsetsFrom 56 (regions n))) (nameHeap ++ flatMap (λ r. r) (regions n)) 40 (sizes n .offsets)
+
+pub file-heap : (n : ℕ) → slice 40 56 (fileWrapper n) ≡ nameHeap
+unfolding fileWrapper
+file-heap n = part-at (u32s (4 ∷ 2 ∷ offsetsFrom 56 (regions n))) nameHeap (flatMap (λ r. r) (regions n)) 40 56 (sizes n .offsets) refl
+
+-- ---- entries
+
+-- a part of a part
+slice-within : (b : List ℕ) (a e i j : ℕ) → a + j ≤ e → slice i j (slice a e b) ≡ slice (a + i) (a + j) b
+slice-within b zero e i j h = simp (zero-add, take-take j e b (omega arith))
+slice-within b (suc a) zero i j h = absurd (omega arith)
+slice-within [] (suc a) (suc e) i j h = simp (take-nil, drop-nil)
+slice-within (x ∷ b) (suc a) (suc e) i j h = rw (suc-add a i, suc-add a j) (slice-within b a e i j (omega arith))
+
+-- region k of the blob, where it is one of entries
+module _ (r : Region) (n k : ℕ) (h : k < length (regions n)) (is : getD (regions n) k [] ≡ region r n) where
+  abbrev start : ℕ
+  start = getD (offsetsFrom 56 (regions n)) k 0
+
+  -- what stands in the region stands in the blob
+  in-region : (p vs q : List ℕ) (a : ℕ) → region r n ≡ p ++ (u32s vs ++ q) → start + length p ≡ a → slice a (a + 4 * length vs) (fileWrapper n) ≡ u32s vs
+  in-region p vs q a e l =
+      let i : ℕ = length p in
+      let j : ℕ = length p + 4 * length vs in
+      let z : start + j ≡ a + 4 * length vs = omega arith in
+      let o = offset-next 56 (regions n) k h in
+      rw (← z, ← l)
+      (sym (slice-within (fileWrapper n) start (getD (offsetsFrom 56 (regions n)) (suc k) 0) i j
+      (omega (arith, o, ap length (is ∙ e), length-append p (u32s vs ++ q), length-append (u32s vs) q, length-u32s vs)))
+      ∙ ap (slice i j) (file-regions n k h ∙ is ∙ e)
+      ∙ part-at p (u32s vs) q i j refl (omega (arith, length-u32s vs)))
+
+  entry-at : (i a : ℕ) → i < n → start + (4 * length (zeroEntry r) + entrySize r * i) ≡ a → slice a (a + 4 * length (entry r i)) (fileWrapper n) ≡ u32s (entry r i)
+  unfolding region entriesFrom
+  entry-at i a m l =
+      let z : List ℕ = u32s (zeroEntry r) in
+      let x : List ℕ = entriesFrom r 0 i in
+      let y : List ℕ = entriesFrom r (suc i) (n - suc i) in
+      let c : n ≡ i + suc (n - suc i) = omega arith in
+      let s : entriesFrom r 0 n ≡ x ++ (u32s (entry r i) ++ y) = ap (entriesFrom r 0) c ∙ rw zero-add at (entries-split r 0 i (suc (n - suc i))) in
+      in-region (z ++ x) (entry r i) y a (ap (λ (t : List ℕ). z ++ t) s ∙ sym (append-assoc z x (u32s (entry r i) ++ y)))
+      (omega (arith, length-append z x, length-u32s (zeroEntry r), length-entries r 0 i))
+
+module _ (n : ℕ) where
+  -- the classes
+  pub classes-at : slice 56 88 (fileWrapper n) ≡ classEntries
+  unfolding regions
+  classes-at = rw (offsets-are n) at (file-regions n 0 (omega arith))
+
+  -- the saved block 0, and that of object i
+  pub block-0 : slice 88 96 (fileWrapper n) ≡ u32s (0 ∷ 0 ∷ [])
+  unfolding regions region
+  block-0 = in-region SavedBlocks n 1 (omega arith) refl [] (zeroEntry SavedBlocks) (entriesFrom SavedBlocks 0 n) 88 refl (rw (offsets-are n))
+
+  pub block-at : (i : ℕ) → i < n → slice (96 + 16 * i) (96 + 16 * i + 16) (fileWrapper n) ≡ u32s (1 ∷ 1 ∷ 1 ∷ i ∷ [])
+  unfolding regions
+  block-at i h = entry-at SavedBlocks n 1 (omega arith) refl i (96 + 16 * i) h (rw (offsets-are n) (omega arith))
+
+  -- the record of object i
+  pub record-at : (i : ℕ) → i < n → slice (120 + 16 * n + 24 * i) (120 + 16 * n + 24 * i + 24) (fileWrapper n) ≡ u32s (1 ∷ 0 ∷ 0 ∷ (i + 1) ∷ 0 ∷ (i + 1) ∷ [])
+  unfolding regions
+  record-at i h = entry-at Objects n 2 (omega arith) refl i (120 + 16 * n + 24 * i) h (rw (offsets-are n) (omega arith))
+
+  -- the normal block 0
+  pub normal-0 : slice (120 + 40 * n) (128 + 40 * n) (fileWrapper n) ≡ u32s (0 ∷ 0 ∷ [])
+  unfolding regions
+  normal-0 = rw (offsets-are n) at (file-regions n 3 (omega arith))
 
 -- ---- payloads
 

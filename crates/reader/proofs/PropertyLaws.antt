@@ -1,0 +1,258 @@
+-- The outcomes of the queries for an object's properties, and the loops over its triples.
+-- Assumes nothing.
+use mathlib.Core.Path.{_≡_, refl, sym, ap, _∙_, subst}
+use mathlib.Core.Bool.{true, false, cond}
+use mathlib.Core.List.{List, [], _∷_, _++_, map}
+use Prim.Native.Nat.{ℕ, zero, suc, _+_, _-_, _*_, _^_, _≤_, _<_, min}
+use native.Mathlib.Numerals.{add-one}
+use native.Mathlib.Omega.{arith}
+use borrow.Author.Tests.{le-leb, lt-leb, lt-ltb, le-ltb, eq-eqb, ne-eqb}
+use lib.Dec.{leb}
+use lib.ListN.{length, drop, set, length-append, length-drop}
+use Rattle.text.specs.Errors.{failureOf}
+use Rattle.text.specs.Result.{Result, ok, error, mapResult, overwritten}
+use Rattle.text.specs.declared.error.MatError.{MatError}
+use Rattle.text.specs.declared.error.MatError.the-variants.{ObjectIdOutOfRange, NameIndexOutOfRange, UnknownFieldType, OutputTooShort}
+use Rattle.text.proofs.ResultLaws.{reply-is, seq-passed, seq-failed}
+use Rattle.reader.specs.Objects.{checkBlock, objectRow, triplesFrom, triplesOf, checkTriple, checkTriples, recordRow, recordTriples, objectTriples, rowOf}
+use Rattle.reader.specs.ObjectStages.{firstBlocks, ToObject, objectReplyOf, IsBlock, Stands, ReadsObject, TriplesIn, triplesReplyOf, PassedTriples, Triples, RecordTriples, ReadsTriples}
+use Rattle.reader.specs.Opening.{opened, Opens}
+use Rattle.reader.specs.Queries.{objectRecord, checkObject, intoOutput}
+use Rattle.reader.specs.Replies.{parseReplyOf, checkedOf, WritesRows}
+use Rattle.reader.specs.Wire.{tripleAt}
+use Rattle.reader.specs.declared.file_wrapper.Checked.{Checked}
+use Rattle.reader.specs.declared.file_wrapper.Checked.the-variants as checked
+use Rattle.reader.specs.declared.file_wrapper.FileWrapper.{FileWrapper}
+use Rattle.reader.specs.declared.file_wrapper.ParseReply.{ParseReply}
+use Rattle.reader.specs.declared.file_wrapper.ParseReply.the-variants as parse
+use Rattle.reader.specs.declared.objects.Cursors.{Cursors}
+use Rattle.reader.specs.declared.objects.ObjectReply.{ObjectReply}
+use Rattle.reader.specs.declared.objects.ObjectReply.the-variants as object
+use Rattle.reader.specs.declared.objects.ObjectRow.{ObjectRow}
+use Rattle.reader.specs.declared.properties.PropertiesReply.the-variants as properties
+use Rattle.reader.specs.declared.properties.TriplesReply.{TriplesReply}
+use Rattle.reader.specs.declared.properties.TriplesReply.the-variants as triples
+use Rattle.reader.specs.declared.records.ObjectRecord.{ObjectRecord}
+use Rattle.reader.specs.declared.records.Triple.{Triple}
+use Rattle.reader.proofs.ObjectLaws.{cursors-start}
+
+-- ---- the checks of one triple
+
+module _ (w : FileWrapper) (t : Triple) where
+  pub triple-name : w .names < t .«name_idx» → checkedOf (checked.Failed (NameIndexOutOfRange (t .«name_idx»))) ≡ checkTriple w t
+  unfolding checkTriple
+  triple-name h = simp (lt-leb (t .«name_idx») (w .names) h)
+
+  module _ (named : t .«name_idx» ≤ w .names) where
+    pub triple-type : 2 < t .«field_type» → checkedOf (checked.Failed (UnknownFieldType (t .«field_type»))) ≡ checkTriple w t
+    unfolding checkTriple
+    triple-type h = simp (le-leb (t .«name_idx») (w .names) named, lt-leb (t .«field_type») 2 h)
+
+    module _ (typed : t .«field_type» ≤ 2) where
+      pub triple-other : (t .«field_type» ≡ 0 → ⊥) → checkedOf checked.Passed ≡ checkTriple w t
+      unfolding checkTriple
+      triple-other h = simp (le-leb (t .«name_idx») (w .names) named, le-leb (t .«field_type») 2 typed, ne-eqb (t .«field_type») 0 h)
+
+      module _ (name : t .«field_type» ≡ 0) where
+        pub triple-value : w .names < t .value → checkedOf (checked.Failed (NameIndexOutOfRange (t .value))) ≡ checkTriple w t
+        unfolding checkTriple
+        triple-value h = simp (le-leb (t .«name_idx») (w .names) named, le-leb (t .«field_type») 2 typed, eq-eqb (t .«field_type») 0 name, lt-leb (t .value) (w .names) h)
+
+        pub triple-named : t .value ≤ w .names → checkedOf checked.Passed ≡ checkTriple w t
+        unfolding checkTriple
+        triple-named h = simp (le-leb (t .«name_idx») (w .names) named, le-leb (t .«field_type») 2 typed, eq-eqb (t .«field_type») 0 name, le-leb (t .value) (w .names) h)
+
+pub ruleset triple-checks = (triple-name, triple-type, triple-other, triple-value, triple-named)
+
+-- ---- the checks of all
+
+-- the triples before byte i have passed, and left of them are to come
+pub record Checking (b : List ℕ) (w : FileWrapper) (start n i left : ℕ) : Type 0 where
+  pub inside : i + 12 * left ≤ length b
+  pub most : length b ≤ 16777216
+  pub rest : checkTriples w (triplesFrom b start n) ≡ checkTriples w (triplesFrom b i left)
+
+module _ {b : List ℕ} {w : FileWrapper} {start n : ℕ} where
+  pub checking-start : TriplesIn b start n → Checking b w start n start n
+  checking-start t = record { inside = t .inside; most = t .most; rest = refl }
+
+  module _ {i left : ℕ} (c : Checking b w start n i left) where
+    pub checking-read : 0 < left → i + 12 ≤ length b
+    checking-read h = omega (arith, c .inside)
+
+    module _ (h : 0 < left) {t : Triple} (is : t ≡ tripleAt b i) where
+      more : checkTriples w (triplesFrom b start n) ≡ checkTriples w (t ∷ triplesFrom b (i + 12) (left - 1))
+      unfolding triplesFrom
+      more =
+          let z : left ≡ suc (left - 1) = omega arith in
+          c .rest ∙ ap (λ (k : ℕ). checkTriples w (triplesFrom b i k)) z ∙ ap (λ (y : Triple). checkTriples w (y ∷ triplesFrom b (i + 12) (left - 1))) (sym is)
+
+      module _ {x : Checked} (said : checkedOf x ≡ checkTriple w t) where
+        pub checking-turn : x ≡ checked.Passed → Checking b w start n (i + 12) (left - 1)
+        unfolding checkTriples
+        checking-turn g = record { inside = omega (arith, c .inside); most = c .most; rest = rw (reply-is checkedOf said g) at more }
+
+        pub checking-stop : {e : MatError} → x ≡ checked.Failed e → checkedOf (checked.Failed e) ≡ checkTriples w (triplesFrom b start n)
+        unfolding checkTriples
+        checking-stop g = sym (rw (reply-is checkedOf said g) at more)
+
+    pub checking-last : left ≤ 0 → checkedOf checked.Passed ≡ checkTriples w (triplesFrom b start n)
+    unfolding checkTriples triplesFrom
+    checking-last h =
+        let z : left ≡ zero = omega arith in
+        sym (rw z at (c .rest))
+
+-- ---- the triples of an object that the blob has
+
+pub to-object : {b : List ℕ} {w : FileWrapper} {id : ℕ} → Opens b w → id < w .records → {cs : Cursors} → cs ≡ firstBlocks w → ToObject b w cs id
+to-object o h e = record { opens = o; cursors = cursors-start e; below = h }
+
+module _ {b : List ℕ} {w : FileWrapper} {r : ObjectRecord} (o : Opens b w) {x : ObjectReply} (read : ReadsObject b w r x) where
+  pub record-refused : {f : MatError} → x ≡ object.Error f → RecordTriples b w r (triples.Error f)
+  unfolding recordRow recordTriples
+  record-refused g =
+      let e = seq-failed (checkBlock w r) (objectRow b w r) (reply-is objectReplyOf (read .reply) g) in
+      record { reply = rw e; are = tt }
+
+  module _ {row : ObjectRow} {at : ℕ} {cs : Cursors} (g : x ≡ object.Object row at cs) where
+    block : IsBlock b w r (row .«property_count») at
+    block = (subst (Stands b w r) g (read .stands)) .0
+
+    pub triples-inside : TriplesIn b (at + 4) (row .«property_count»)
+    triples-inside = record { inside = block .inside; most = o .most }
+
+    pub triples-fit : at + 4 < 2 ^ 64
+    triples-fit = omega (arith, block .inside, o .most)
+
+    -- check 10 holds, and the triples are the object's
+    passed : (checkBlock w r ≡ ok tt) × (triplesFrom b (at + 4) (row .«property_count») ≡ triplesOf b w r)
+    unfolding recordRow
+    passed =
+        let p = seq-passed (checkBlock w r) (ok (objectRow b w r)) (reply-is objectReplyOf (read .reply) g) in
+        let q = p .1 .1 in
+        let z : row ≡ objectRow b w r = cc in
+        (p .1 .0, rw (block .is, ap (λ (y : ObjectRow). y .«property_count») z))
+
+    module _ {y : Checked} (said : checkedOf y ≡ checkTriples w (triplesFrom b (at + 4) (row .«property_count»))) where
+      pub record-failed : {f : MatError} → y ≡ checked.Failed f → RecordTriples b w r (triples.Error f)
+      unfolding recordTriples
+      record-failed h =
+          let c = rw (passed .1) at (reply-is checkedOf said h) in
+          record { reply = rw (passed .0, c); are = tt }
+
+      pub record-passed : y ≡ checked.Passed → RecordTriples b w r (triples.Triples w (at + 4) (row .«property_count»))
+      unfolding recordTriples
+      record-passed h =
+          let c = rw (passed .1) at (reply-is checkedOf said h) in
+          record {
+            reply = rw (passed .0, c) (ap ok (passed .1));
+            are = record { opens = o; triples = triples-inside; checks = reply-is checkedOf said h };
+          }
+
+-- ---- the triples of an object
+
+module _ (b : List ℕ) (id : ℕ) {x : ParseReply} (e : parseReplyOf x ≡ opened b) where
+  pub triples-refused : {f : MatError} → x ≡ parse.Error f → ReadsTriples b id (triples.Error f)
+  unfolding objectTriples
+  triples-refused g = record { reply = rw (reply-is parseReplyOf e g); are = tt }
+
+  module _ {w : FileWrapper} (g : x ≡ parse.Parsed w) where
+    pub triples-zero : id ≡ 0 → ReadsTriples b id (triples.Error (ObjectIdOutOfRange 0))
+    unfolding objectTriples checkObject
+    triples-zero z = record { reply = rw (z, reply-is parseReplyOf e g); are = tt }
+
+    module _ (some : id ≡ 0 → ⊥) where
+      pub triples-outside : w .records ≤ id → ReadsTriples b id (triples.Error (ObjectIdOutOfRange id))
+      unfolding objectTriples checkObject
+      triples-outside h = record { reply = rw (reply-is parseReplyOf e g) (simp (le-leb 1 id (omega arith), le-ltb id (w .records) h)); are = tt }
+
+      pub triples-read : id < w .records → {y : TriplesReply} → RecordTriples b w (objectRecord b w id) y → ReadsTriples b id y
+      unfolding objectTriples checkObject
+      triples-read h t = record { reply = t .reply ∙ rw (reply-is parseReplyOf e g) (simp (le-leb 1 id (omega arith), lt-ltb id (w .records) h)); are = t .are }
+
+-- ---- rows
+
+pub length-triples : (b : List ℕ) (i n : ℕ) → length (triplesFrom b i n) ≡ n
+unfolding triplesFrom
+length-triples b i zero = refl
+length-triples b i (suc n) = ap suc (length-triples b (i + 12) n)
+
+abbrev rowsFrom : List ℕ → ℕ → ℕ → List (List ℕ)
+rowsFrom b i n = map rowOf (triplesFrom b i n)
+
+length-rows : (b : List ℕ) (i n : ℕ) → length (rowsFrom b i n) ≡ n
+unfolding triplesFrom
+length-rows b i zero = refl
+length-rows b i (suc n) = ap suc (length-rows b (i + 12) n)
+
+-- one row more
+grow : (b : List ℕ) (s i k : ℕ) (rs : List (List ℕ)) → k ≡ s + 12 * i → i < length rs
+    → set (rowsFrom b s i ++ drop i rs) i (rowOf (tripleAt b k)) ≡ rowsFrom b s (suc i) ++ drop (suc i) rs
+unfolding triplesFrom
+grow b s i k [] e h = absurd (omega arith)
+grow b s zero k (r ∷ rs) e h =
+    let z : k ≡ s = omega arith in
+    rw z
+grow b s (suc i) k (r ∷ rs) e h = ap (λ (l : List (List ℕ)). rowOf (tripleAt b s) ∷ l) (grow b (s + 12) i k rs (omega arith) (omega arith))
+
+-- the rows of i triples stand over the front
+pub record Filling (b : List ℕ) (start n : ℕ) (rows₀ rows : List (List ℕ)) (i : ℕ) : Type 0 where
+  pub bound : i ≤ n
+  pub is : rows ≡ rowsFrom b start i ++ drop i rows₀
+
+module _ {b : List ℕ} {start n : ℕ} {rows₀ : List (List ℕ)} (t : TriplesIn b start n) (room : n ≤ length rows₀) where
+  pub fill-start : Filling b start n rows₀ rows₀ 0
+  unfolding triplesFrom
+  fill-start = record { bound = omega arith; is = refl }
+
+  module _ {rows : List (List ℕ)} {i : ℕ} (f : Filling b start n rows₀ rows i) where
+    pub fill-length : length rows ≡ length rows₀
+    fill-length = ap length (f .is) ∙ omega (arith, length-append (rowsFrom b start i) (drop i rows₀), length-rows b start i, length-drop i rows₀, f .bound)
+
+    pub fill-room : i < n → i < length rows
+    fill-room h = omega (arith, fill-length)
+
+    pub fill-read : i < n → start + 12 * i + 12 ≤ length b
+    fill-read h = omega (arith, t .inside)
+
+    pub fill-turn : i < n → {k : Triple} → k ≡ tripleAt b (start + 12 * i) → {r : List ℕ} → r ≡ rowOf k → Filling b start n rows₀ (set rows i r) (i + 1)
+    fill-turn h {k} e {r} q =
+        record {
+          bound = omega arith;
+          is = rw (q, e, f .is, add-one) (grow b start i (start + 12 * i) rows₀ refl (omega (arith, room)));
+        }
+
+    pub fill-last : n ≤ i → rows ≡ rowsFrom b start n ++ drop n rows₀
+    fill-last h =
+        let z : i ≡ n = omega (arith, f .bound) in
+        rw z at (f .is)
+
+-- ---- the public call
+
+module _ (b : List ℕ) (id : ℕ) {x : TriplesReply} (read : ReadsTriples b id x) where
+  pub rows-refused : (rows : List (List ℕ)) {f : MatError} → x ≡ triples.Error f → WritesRows (objectTriples b id) rows (properties.Error f) rows
+  rows-refused rows g = rw (reply-is (triplesReplyOf b) (read .reply) g) (record { reply = refl; buffer = refl })
+
+  module _ {w : FileWrapper} {at n : ℕ} (g : x ≡ triples.Triples w at n) where
+    are : PassedTriples b w at n
+    are = subst (Triples b) g (read .are)
+
+    pub rows-inside : TriplesIn b at n
+    rows-inside = are .triples
+
+    come : objectTriples b id ≡ ok (triplesFrom b at n)
+    come = reply-is (triplesReplyOf b) (read .reply) g
+
+    pub rows-short : (rows : List (List ℕ)) → length rows < n → WritesRows (objectTriples b id) rows (properties.Error (OutputTooShort n)) rows
+    rows-short rows h =
+        let l = length-triples b at n in
+        let t : leb (length (triplesFrom b at n)) (length rows) ≡ false = lt-leb (length (triplesFrom b at n)) (length rows) (omega arith) in
+        let k : min (length (triplesFrom b at n)) (2 ^ 64 - 1) ≡ n = omega (arith, rows-inside) in
+        rw come (record { reply = simp (t, k); buffer = simp t })
+
+    pub rows-written : {rows rows' : List (List ℕ)} → n ≤ length rows → rows' ≡ rowsFrom b at n ++ drop n rows
+        → WritesRows (objectTriples b id) rows (properties.Rows n) rows'
+    rows-written {rows} {rows'} h e =
+        let l = length-triples b at n in
+        let t : leb (length (triplesFrom b at n)) (length rows) ≡ true = le-leb (length (triplesFrom b at n)) (length rows) (omega arith) in
+        rw come (record { reply = simp t (ap ok (sym l)); buffer = simp t (rw (length-rows b at n) e) })

@@ -1,0 +1,18 @@
+-- `reader::find::first_with` meets its contract.
+-- Assumes nothing.
+use Prim.Native.Nat.{_-_}
+use Rattle.reader.proofs.FindLaws.{Passing, pass-start, pass-found, pass-turn, pass-last}
+use borrow.Author.Needs.{needs}
+use Rattle.reader.proofs.find.first_with.Statement.{statement}
+use Rattle.reader.proofs.find.first_with.Tie as tie
+
+abbrev Inv-loop : tie.InvT-loop
+Inv-loop blob at limit index k₀ k = Passing blob at limit index k
+
+abbrev μ-loop : tie.MeasureT-loop
+μ-loop blob at limit index k₀ k = limit - k
+
+pub first-with-spec : {M : Type 1} → statement M
+first-with-spec =
+    tie.close
+    (tie.spec Inv-loop μ-loop (λ c. search (pass-start, needs)) (λ c. search needs) (λ c. search needs) (λ c κs. search needs) (λ c. search (pass-found, needs)) (λ c. search needs) (λ c. search needs) (λ c. search (pass-turn, needs)) (λ c. search (pass-last, needs)))

@@ -1,0 +1,11 @@
+-- `reader::lines::escape_length` meets its contract.
+-- Assumes nothing.
+use Rattle.reader.proofs.LineLaws.{size-plain, size-hex}
+use borrow.Author.Needs.{needs}
+use Rattle.reader.proofs.lines.escape_length.Statement.{statement}
+use Rattle.reader.proofs.lines.escape_length.Tie as tie
+
+pub escape-length-spec : {M : Type 1} → statement M
+escape-length-spec =
+    tie.close
+    (tie.spec (λ c κs. search needs) (λ c. search (size-plain, needs)) (λ c. search (size-hex, needs)))

@@ -1,0 +1,150 @@
+// The properties of an object.
+use crate::file_wrapper::Checked;
+use crate::file_wrapper::FileWrapper;
+use crate::file_wrapper::ParseReply;
+use crate::objects::ObjectReply;
+use crate::objects::first_blocks;
+use crate::objects::read_object;
+use crate::records::Triple;
+use text::error::MatError;
+ghost use mathlib.Core.Path.{_≡_};
+ghost use mathlib.Core.List.{_++_, map};
+ghost use Prim.Native.Nat.{_≤_, _<_};
+ghost use lib.ListN.{length, drop};
+ghost use Rattle.reader.specs.Objects.{triplesFrom, checkTriple, checkTriples, rowOf, objectTriples};
+ghost use Rattle.reader.specs.ObjectStages.{TriplesIn, RecordTriples, ReadsTriples};
+ghost use Rattle.reader.specs.Opening.{Opens};
+ghost use Rattle.reader.specs.Queries.{objectRecord};
+ghost use Rattle.reader.specs.Replies.{checkedOf, WritesRows};
+
+// A property as three numbers: its name index, its type (0 name, 1 heap, 2 inline) and its value.
+pub const ROW_WIDTH: usize = 3;
+
+// Checks 11 and 12 for one property.
+fn check_triple(w: FileWrapper, triple: Triple) -> Checked
+    ensures { λ r. ⌜ checkedOf r ≡ checkTriple w triple ⌝ }
+{
+    if w.names < triple.name_idx {
+        return Checked::Failed(MatError::NameIndexOutOfRange(triple.name_idx as u64));
+    }
+    if 2 < triple.field_type {
+        return Checked::Failed(MatError::UnknownFieldType(triple.field_type as u64));
+    }
+    if triple.field_type == 0 {
+        if w.names < triple.value {
+            return Checked::Failed(MatError::NameIndexOutOfRange(triple.value as u64));
+        }
+    }
+    Checked::Passed
+}
+
+// The same for count triples from byte start on.
+fn check_triples(blob: &[u8], w: FileWrapper, start: usize, count: usize) -> Checked
+    requires { ⌜ TriplesIn (now blob) start count ⌝ }
+    ensures { λ r. ⌜ checkedOf r ≡ checkTriples w (triplesFrom (now (blob .entry)) start count) ⌝ }
+{
+    let mut at = start;
+    let mut left = count;
+    while 0 < left {
+        if let Checked::Failed(e) = check_triple(w, Triple::read(blob, at)) {
+            return Checked::Failed(e);
+        }
+        at += Triple::SIZE;
+        left -= 1;
+    }
+    Checked::Passed
+}
+
+// The triples of an object: the opened blob, the byte of the first, and their number.
+pub(crate) enum TriplesReply {
+    Triples {
+        w: FileWrapper,
+        at: usize,
+        count: usize,
+    },
+    Error(MatError),
+}
+
+// Checks 10 to 12 for an object that the blob has.
+fn record_triples(blob: &[u8], w: FileWrapper, object_id: u32) -> TriplesReply
+    requires { ⌜ Opens (now blob) w × («object_id» < w .records) ⌝ }
+    ensures { λ r. ⌜ RecordTriples (now (blob .entry)) w (objectRecord (now (blob .entry)) w «object_id») r ⌝ }
+{
+    match read_object(blob, w, first_blocks(w), object_id) {
+        ObjectReply::Object {
+            row,
+            at,
+            cursors: _,
+        } => {
+            let first = at + 4;
+            let count = row.property_count as usize;
+            if let Checked::Failed(e) = check_triples(blob, w, first, count) {
+                return TriplesReply::Error(e);
+            }
+            TriplesReply::Triples {
+                w,
+                at: first,
+                count,
+            }
+        }
+        ObjectReply::Error(e) => TriplesReply::Error(e),
+    }
+}
+
+// The triples of an object: checks 1 to 8 and 10 to 12.
+pub(crate) fn object_triples(blob: &[u8], object_id: u32) -> TriplesReply
+    ensures { λ r. ⌜ ReadsTriples (now (blob .entry)) «object_id» r ⌝ }
+{
+    match FileWrapper::parse(blob) {
+        ParseReply::Parsed(w) => {
+            if object_id == 0 {
+                return TriplesReply::Error(MatError::ObjectIdOutOfRange(0));
+            }
+            if w.records <= object_id as usize {
+                return TriplesReply::Error(MatError::ObjectIdOutOfRange(object_id as u64));
+            }
+            record_triples(blob, w, object_id)
+        }
+        ParseReply::Error(e) => TriplesReply::Error(e),
+    }
+}
+
+fn row_of(triple: Triple) -> [u32; ROW_WIDTH]
+    ensures { λ r. ⌜ r ≡ rowOf triple ⌝ }
+{
+    [triple.name_idx, triple.field_type, triple.value]
+}
+
+// A row for each of count triples from byte start on, at the start of rows.
+fn put_rows(blob: &[u8], start: usize, count: usize, rows: &mut [[u32; ROW_WIDTH]])
+    requires { ⌜ TriplesIn (now blob) start count × (count ≤ length (now rows)) ⌝ }
+    ensures { λ _. ⌜ now (rows .exit) ≡ map rowOf (triplesFrom (now (blob .entry)) start count) ++ drop count (now (rows .entry)) ⌝ }
+{
+    let mut i: usize = 0;
+    while i < count {
+        rows[i] = row_of(Triple::read(blob, start + Triple::SIZE * i));
+        i += 1;
+    }
+}
+
+// How many rows were written, or the refusal.
+pub enum PropertiesReply {
+    Rows(usize),
+    Error(MatError),
+}
+
+// The properties of an object, a row for each, at the start of rows.
+pub fn properties(blob: &[u8], object_id: u32, rows: &mut [[u32; ROW_WIDTH]]) -> PropertiesReply
+    ensures { λ r. ⌜ WritesRows (objectTriples (now (blob .entry)) «object_id») (now (rows .entry)) r (now (rows .exit)) ⌝ }
+{
+    match object_triples(blob, object_id) {
+        TriplesReply::Triples { w: _, at, count } => {
+            if rows.len() < count {
+                return PropertiesReply::Error(MatError::OutputTooShort(count as u64));
+            }
+            put_rows(blob, at, count, rows);
+            PropertiesReply::Rows(count)
+        }
+        TriplesReply::Error(e) => PropertiesReply::Error(e),
+    }
+}
