@@ -2,7 +2,7 @@
 -- Assumes nothing.
 use mathlib.Core.Path.{_≡_, refl, sym, ap, _∙_, subst}
 use mathlib.Core.List.{List, [], _∷_, _++_}
-use Prim.Native.Nat.{ℕ, zero, suc, _+_, _-_, _≤_, _<_}
+use Prim.Native.Nat.{ℕ, zero, suc, _+_, _-_, _^_, _≤_, _<_}
 use native.Mathlib.Omega.{arith}
 use borrow.Author.Tests.{le-leb, lt-leb, leb-true}
 use lib.Dec.{leb}
@@ -68,6 +68,12 @@ opens b w e =
 -- what a reply of `parse` says
 pub parsed : (b : List ℕ) {x : ParseReply} {w : FileWrapper} → parseReplyOf x ≡ opened b → x ≡ parse.Parsed w → Opens b w
 parsed b {x} {w} e g = opens b w (reply-is parseReplyOf e g)
+
+-- an id has 32 bits, and no blob has more records
+pub few-records : (b : List ℕ) {x : ParseReply} {w : FileWrapper} → parseReplyOf x ≡ opened b → x ≡ parse.Parsed w → w .records < 2 ^ 32
+few-records b e g =
+    let o = parsed b e g in
+    omega (arith, o, o .object-records)
 
 -- ---- a query that writes a text
 

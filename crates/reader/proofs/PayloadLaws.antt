@@ -16,8 +16,8 @@ use Rattle.text.specs.declared.error.MatError.{MatError}
 use Rattle.text.specs.declared.error.MatError.the-variants.{OutputTooShort}
 use Rattle.text.proofs.BufferLaws.{put-front}
 use Rattle.text.proofs.ResultLaws.{reply-is, seq-passed, bind-passed, checkEach-passed, check-is}
-use Rattle.reader.specs.Saveobj.{unitsBefore, Header, storedUnits, storedStrings, checkHeader, checkSum, checkLengths, checkStrings, decodePayload, joined, spansFrom, decodeSaveobj}
-use Rattle.reader.specs.SaveobjStages.{numberOf, headerOf, Counts, countsOf, stringsReplyOf, UnitsChecked, measuredStrings, StringsFit, WritesStrings, theStrings, PayloadFits, WritesPayload, DecodesSaveobj}
+use Rattle.reader.specs.Saveobj.{unitsBefore, Header, storedUnits, storedStrings, checkHeader, checkSum, checkLengths, checkStrings, decodePayload, joined, spansFrom, intoStrings}
+use Rattle.reader.specs.SaveobjStages.{numberOf, headerOf, Counts, countsOf, stringsReplyOf, UnitsChecked, measuredStrings, StringsFit, WritesStrings, theStrings, PayloadFits, WritesPayload, DecodesStrings}
 use Rattle.reader.specs.declared.saveobj.HeaderReply.{HeaderReply}
 use Rattle.reader.specs.declared.saveobj.HeaderReply.the-variants as header
 use Rattle.reader.specs.declared.saveobj.NumberReply.{NumberReply}
@@ -208,67 +208,75 @@ error-is (error g) {f} e =
     let k : g ≡ f = cc in
     ap error k
 
-module _ (payload text spans : List ℕ) where
-  comes : (m : Result (List (List ℕ))) {r : StringsReply} {text' spans' : List ℕ} → decodeSaveobj payload (length text) (length spans) ≡ m
-      → stringsReplyOf r ≡ mapResult countsOf m → text' ≡ overwritten joined m text → spans' ≡ overwritten (spansFrom 0) m spans
-      → DecodesSaveobj payload text spans r text' spans'
-  comes m e p q s = record {
+-- ---- what a call comes to that writes the strings of a result
+
+module _ (m : Result (List (List ℕ))) (text spans : List ℕ) where
+  comes : (n : Result (List (List ℕ))) {r : StringsReply} {text' spans' : List ℕ} → intoStrings m (length text) (length spans) ≡ n
+      → stringsReplyOf r ≡ mapResult countsOf n → text' ≡ overwritten joined n text → spans' ≡ overwritten (spansFrom 0) n spans
+      → DecodesStrings m text spans r text' spans'
+  comes n e p q s = record {
     reply = p ∙ ap (mapResult countsOf) (sym e);
-    text-after = q ∙ ap (λ (m : Result (List (List ℕ))). overwritten joined m text) (sym e);
-    spans-after = s ∙ ap (λ (m : Result (List (List ℕ))). overwritten (spansFrom 0) m spans) (sym e);
+    text-after = q ∙ ap (λ (n : Result (List (List ℕ))). overwritten joined n text) (sym e);
+    spans-after = s ∙ ap (λ (n : Result (List (List ℕ))). overwritten (spansFrom 0) n spans) (sym e);
   }
 
-  module _ (x : StringsReply) (e : stringsReplyOf x ≡ mapResult countsOf (decodePayload payload)) where
-    pub decode-refused : {f : MatError} → x ≡ reply.Error f → DecodesSaveobj payload text spans (reply.Error f) text spans
-    unfolding decodeSaveobj
-    decode-refused {f} g = comes (error (failureOf f)) (rw (error-is (decodePayload payload) (reply-is stringsReplyOf e g))) refl refl refl
+  module _ (x : StringsReply) (e : stringsReplyOf x ≡ mapResult countsOf m) where
+    pub decode-refused : {f : MatError} → x ≡ reply.Error f → DecodesStrings m text spans (reply.Error f) text spans
+    decode-refused {f} g = comes (error (failureOf f)) (rw (error-is m (reply-is stringsReplyOf e g))) refl refl refl
 
     module _ {b n : ℕ} (g : x ≡ reply.Strings b n) where
-      counts : (decodePayload payload ≡ ok (stringsIn payload)) × (length (joined (stringsIn payload)) ≡ b) × (length (stringsIn payload) ≡ n)
-      counts = counts-are (decodePayload payload) (reply-is stringsReplyOf e g)
+      counts : (m ≡ ok (theStrings m)) × (length (joined (theStrings m)) ≡ b) × (length (theStrings m) ≡ n)
+      counts = counts-are m (reply-is stringsReplyOf e g)
 
-      -- the values of the spans fit 64 bits
-      pub decode-values : 2 * n < 2 ^ 64
-      decode-values =
-          let p = payload-passed payload (counts .0) .1 .1 in
-          omega (arith, counts .2, p .many, p .checked .lengths, p .checked .most)
-
-      short : (need : ℕ) → decodeSaveobj payload (length text) (length spans) ≡ error (record { number = 34; place = need })
-          → DecodesSaveobj payload text spans (reply.Error (OutputTooShort need)) text spans
+      short : (need : ℕ) → intoStrings m (length text) (length spans) ≡ error (record { number = 34; place = need })
+          → DecodesStrings m text spans (reply.Error (OutputTooShort need)) text spans
       short need d = comes (error (record { number = 34; place = need })) d refl refl refl
 
-      pub decode-short-text : b < 2 ^ 64 → length text < b → DecodesSaveobj payload text spans (reply.Error (OutputTooShort b)) text spans
-      unfolding decodeSaveobj
+      pub decode-short-text : b < 2 ^ 64 → length text < b → DecodesStrings m text spans (reply.Error (OutputTooShort b)) text spans
       decode-short-text f h =
           let l = counts .1 in
-          let p : min (length (joined (stringsIn payload))) (2 ^ 64 - 1) ≡ b = omega arith in
-          short b (rw (counts .0) (simp (lt-leb (length (joined (stringsIn payload))) (length text) (omega arith), p)))
+          let p : min (length (joined (theStrings m))) (2 ^ 64 - 1) ≡ b = omega arith in
+          short b (ap (λ (y : Result (List (List ℕ))). intoStrings y (length text) (length spans)) (counts .0) ∙ simp (lt-leb (length (joined (theStrings m))) (length text) (omega arith), p))
 
       module _ (fits : b ≤ length text) where
-        pub decode-short-spans : length spans < 2 * n → DecodesSaveobj payload text spans (reply.Error (OutputTooShort (2 * n))) text spans
-        unfolding decodeSaveobj
-        decode-short-spans h =
+        pub decode-short-spans : 2 * n < 2 ^ 64 → length spans < 2 * n → DecodesStrings m text spans (reply.Error (OutputTooShort (2 * n))) text spans
+        decode-short-spans f h =
             let l = counts .1 in
             let k = counts .2 in
-            let p : min (2 * length (stringsIn payload)) (2 ^ 64 - 1) ≡ 2 * n = omega (arith, decode-values) in
+            let p : min (2 * length (theStrings m)) (2 ^ 64 - 1) ≡ 2 * n = omega arith in
             short (2 * n)
-            (rw (counts .0)
-            (simp
-            (le-leb (length (joined (stringsIn payload))) (length text) (omega arith), lt-leb (2 * length (stringsIn payload)) (length spans) (omega arith), p)))
+            (ap (λ (y : Result (List (List ℕ))). intoStrings y (length text) (length spans)) (counts .0)
+            ∙ simp
+            (le-leb (length (joined (theStrings m))) (length text) (omega arith), lt-leb (2 * length (theStrings m)) (length spans) (omega arith), p))
 
-        module _ (room : 2 * n ≤ length spans) where
-          pub decode-fits : PayloadFits payload (length text) (length spans) (record { byte = 0; string = 0 })
-          decode-fits = record { passed = counts .0; text = omega (arith, counts .1); spans = omega (arith, counts .2) }
+        pub decode-written : 2 * n ≤ length spans → {next : ℕ} {text' spans' : List ℕ} → WritesStrings (theStrings m) 0 0 text spans next text' spans'
+            → DecodesStrings m text spans (reply.Strings b n) text' spans'
+        decode-written room w =
+            let l = counts .1 in
+            let k = counts .2 in
+            comes (ok (theStrings m))
+            (ap (λ (y : Result (List (List ℕ))). intoStrings y (length text) (length spans)) (counts .0)
+            ∙ simp
+            (le-leb (length (joined (theStrings m))) (length text) (omega arith), le-leb (2 * length (theStrings m)) (length spans) (omega arith)))
+            (rw (l, k)) (w .text-after ∙ put-front text (joined (theStrings m)))
+            (w .spans-after ∙ put-front spans (spansFrom 0 (theStrings m)))
 
-          pub decode-written : {next : Position} {text' spans' : List ℕ} → WritesPayload payload (record { byte = 0; string = 0 }) text spans next text' spans'
-              → DecodesSaveobj payload text spans (reply.Strings b n) text' spans'
-          unfolding decodeSaveobj
-          decode-written w =
-              let l = counts .1 in
-              let k = counts .2 in
-              comes (ok (stringsIn payload))
-              (rw (counts .0)
-              (simp
-              (le-leb (length (joined (stringsIn payload))) (length text) (omega arith), le-leb (2 * length (stringsIn payload)) (length spans) (omega arith))))
-              (rw (l, k)) (w .writes .text-after ∙ put-front text (joined (stringsIn payload)))
-              (w .writes .spans-after ∙ put-front spans (spansFrom 0 (stringsIn payload)))
+-- ---- a payload by itself
+
+module _ (payload text spans : List ℕ) {x : StringsReply} (e : stringsReplyOf x ≡ mapResult countsOf (decodePayload payload)) {b n : ℕ} (g : x ≡ reply.Strings b n) where
+  its-counts : (decodePayload payload ≡ ok (stringsIn payload)) × (length (joined (stringsIn payload)) ≡ b) × (length (stringsIn payload) ≡ n)
+  its-counts = counts-are (decodePayload payload) (reply-is stringsReplyOf e g)
+
+  -- the values of the spans fit 64 bits
+  pub decode-values : 2 * n < 2 ^ 64
+  decode-values =
+      let p = payload-passed payload (its-counts .0) .1 .1 in
+      omega (arith, its-counts .2, p .many, p .checked .lengths, p .checked .most)
+
+  module _ (fits : b ≤ length text) (room : 2 * n ≤ length spans) where
+    pub decode-fits : PayloadFits payload (length text) (length spans) (record { byte = 0; string = 0 })
+    decode-fits = record { passed = its-counts .0; text = omega (arith, its-counts .1); spans = omega (arith, its-counts .2) }
+
+    pub payload-written : {next : Position} {text' spans' : List ℕ} → WritesPayload payload (record { byte = 0; string = 0 }) text spans next text' spans'
+        → DecodesStrings (decodePayload payload) text spans (reply.Strings b n) text' spans'
+    payload-written {next} w = decode-written (decodePayload payload) text spans x e g fits room (w .writes)

@@ -96,10 +96,10 @@ unfoldable pub spansFrom : ℕ → List (List ℕ) → List ℕ
 spansFrom o [] = []
 spansFrom o (s ∷ ss) = o ∷ length s ∷ spansFrom (o + length s) ss
 
--- `decode_string_saveobj`: 22 to 29, then 34 for the text's bytes and for the values of the spans
-unfoldable pub decodeSaveobj : List ℕ → ℕ → ℕ → Result (List (List ℕ))
-decodeSaveobj payload textRoom spanRoom = do
-  strings ← decodePayload payload
+-- strings for outputs of these lengths: 34 for the text's bytes, then for the values of the spans
+abbrev pub intoStrings : Result (List (List ℕ)) → ℕ → ℕ → Result (List (List ℕ))
+intoStrings m textRoom spanRoom = do
+  strings ← m
   checkOutput (length (joined strings)) textRoom
   checkOutput (2 * length strings) spanRoom
   ok strings

@@ -16,7 +16,7 @@ use Rattle.reader.specs.declared.saveobj.HeaderReply.the-variants as hea
 use Rattle.reader.specs.declared.saveobj.StringsReply.{StringsReply}
 use Rattle.reader.specs.declared.saveobj.StringsReply.the-variants as strings
 use Rattle.reader.specs.declared.saveobj.Position.{Position}
-use Rattle.reader.specs.Saveobj.{Header, unitsBefore, storedUnits, storedStrings, checkStrings, decodePayload, joined, spansFrom, decodeSaveobj}
+use Rattle.reader.specs.Saveobj.{Header, unitsBefore, storedUnits, storedStrings, checkStrings, decodePayload, joined, spansFrom, intoStrings}
 
 -- ---- replies
 
@@ -82,7 +82,8 @@ pub record WritesPayload (payload : List ℕ) (at : Position) (text spans : List
 
 -- ---- the call
 
-pub record DecodesSaveobj (payload text spans : List ℕ) (r : StringsReply) (text' spans' : List ℕ) : Type 0 where
-  pub reply : stringsReplyOf r ≡ mapResult countsOf (decodeSaveobj payload (length text) (length spans))
-  pub text-after : text' ≡ overwritten joined (decodeSaveobj payload (length text) (length spans)) text
-  pub spans-after : spans' ≡ overwritten (spansFrom 0) (decodeSaveobj payload (length text) (length spans)) spans
+-- a call that writes the strings that a query comes to, as UTF-8 text end to end, and their spans
+pub record DecodesStrings (m : Result (List (List ℕ))) (text spans : List ℕ) (r : StringsReply) (text' spans' : List ℕ) : Type 0 where
+  pub reply : stringsReplyOf r ≡ mapResult countsOf (intoStrings m (length text) (length spans))
+  pub text-after : text' ≡ overwritten joined (intoStrings m (length text) (length spans)) text
+  pub spans-after : spans' ≡ overwritten (spansFrom 0) (intoStrings m (length text) (length spans)) spans

@@ -19,7 +19,7 @@ fn round_up(end: usize) -> usize
     requires { ⌜ end ≤ 16777216 ⌝ }
     ensures { λ r. ⌜ r ≡ (end + 7) / 8 * 8 ⌝ }
 {
-    (end + 7) / 8 * 8
+    8 * ((end + 7) / 8)
 }
 
 // The bytes from at up to end, none past it.

@@ -12,7 +12,7 @@ ghost use Prim.Native.Nat.{_+_, _≤_, _<_};
 ghost use lib.ListN.{length};
 ghost use Rattle.text.specs.Result.{mapResult};
 ghost use Rattle.reader.specs.Saveobj.{unitCount, storedStrings, checkDims, checkHeader, checkSum, decodePayload};
-ghost use Rattle.reader.specs.SaveobjStages.{numberOf, headerOf, countsOf, stringsReplyOf, measuredStrings, UnitsChecked, StringsFit, WritesStrings, PayloadFits, WritesPayload, DecodesSaveobj};
+ghost use Rattle.reader.specs.SaveobjStages.{numberOf, headerOf, countsOf, stringsReplyOf, measuredStrings, UnitsChecked, StringsFit, WritesStrings, PayloadFits, WritesPayload, DecodesStrings};
 
 // The length that marks a missing string.
 const MISSING: u64 = 0xFFFF_FFFF_FFFF_FFFF;
@@ -221,7 +221,7 @@ pub(crate) fn put_payload(
 
 // Writes the strings of a saveobj payload to the start of text, in UTF-8 and end to end, and their spans to the start of spans.
 pub fn decode_string_saveobj(payload: &[u64], text: &mut [u8], spans: &mut [u64]) -> StringsReply
-    ensures { λ r. ⌜ DecodesSaveobj (now (payload .entry)) (now (text .entry)) (now (spans .entry)) r (now (text .exit)) (now (spans .exit)) ⌝ }
+    ensures { λ r. ⌜ DecodesStrings (decodePayload (now (payload .entry))) (now (text .entry)) (now (spans .entry)) r (now (text .exit)) (now (spans .exit)) ⌝ }
 {
     match measure_payload(payload) {
         StringsReply::Strings { bytes, strings } => {

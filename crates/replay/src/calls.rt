@@ -5,9 +5,15 @@ use crate::render;
 use reader::classes::object_class_name;
 use reader::file_wrapper::FileWrapper;
 use reader::file_wrapper::ParseReply;
+use reader::find::FindReply;
+use reader::find::find_property;
 use reader::names::NameReply;
 use reader::opaque::OpaqueReply;
 use reader::opaque::parse_opaque_metadata;
+use reader::properties::PropertiesReply;
+use reader::properties::properties;
+use reader::saveobj::StringsReply;
+use reader::saveobj::decode_string_saveobj;
 use text::error::MatError;
 use text::utf8::LossyReply;
 use text::utf16::TextReply;
@@ -218,4 +224,103 @@ pub fn wordlist(line: &[u8]) -> Verdict {
         OpaqueReply::Error(error) => render::refusal(error, true, answer),
     };
     compare(line, 2, answer, n)
+}
+
+// props BLOB id rows-length
+pub fn props(line: &[u8]) -> Verdict {
+    let blob: &mut [u8] = &mut io::buffer();
+    let rows: &mut [[u32; 3]] = &mut fields::rows_buffer();
+    let answer: &mut [u8] = &mut io::buffer();
+    let Number::Value(bytes) = fields::bytes(fields::field(line, 1), blob) else {
+        return Verdict::Unreadable;
+    };
+    let Number::Value(id) = fields::decimal(fields::field(line, 2)) else {
+        return Verdict::Unreadable;
+    };
+    let Number::Value(length) = fields::decimal(fields::field(line, 3)) else {
+        return Verdict::Unreadable;
+    };
+    if rows.len() < length {
+        return Verdict::Unreadable;
+    }
+    if 0xFFFF_FFFF < id {
+        return Verdict::Unreadable;
+    }
+    let n = match properties(
+        fields::part(blob, 0, bytes),
+        id as u32,
+        &mut rows[0..length],
+    ) {
+        PropertiesReply::Rows(count) => render::rows(rows, count, answer),
+        PropertiesReply::Error(error) => {
+            render::refusal(error, render::are_rows_untouched(rows, 0), answer)
+        }
+    };
+    compare(line, 4, answer, n)
+}
+
+// find BLOB id WANTED
+pub fn find(line: &[u8]) -> Verdict {
+    let blob: &mut [u8] = &mut io::buffer();
+    let wanted: &mut [u8] = &mut io::buffer();
+    let answer: &mut [u8] = &mut io::buffer();
+    let Number::Value(bytes) = fields::bytes(fields::field(line, 1), blob) else {
+        return Verdict::Unreadable;
+    };
+    let Number::Value(id) = fields::decimal(fields::field(line, 2)) else {
+        return Verdict::Unreadable;
+    };
+    let Number::Value(length) = fields::bytes(fields::field(line, 3), wanted) else {
+        return Verdict::Unreadable;
+    };
+    if 0xFFFF_FFFF < id {
+        return Verdict::Unreadable;
+    }
+    let n = match find_property(
+        fields::part(blob, 0, bytes),
+        id as u32,
+        fields::part(wanted, 0, length),
+    ) {
+        FindReply::Found(position) => render::number(position as u64, answer),
+        FindReply::NotFound => render::none(answer),
+        FindReply::Error(error) => render::refusal(error, true, answer),
+    };
+    compare(line, 4, answer, n)
+}
+
+// payload WORDS text-length spans-length
+pub fn payload(line: &[u8]) -> Verdict {
+    let words: &mut [u64] = &mut fields::words_buffer();
+    let text: &mut [u8] = &mut io::buffer();
+    let spans: &mut [u64] = &mut fields::words_buffer();
+    let answer: &mut [u8] = &mut io::buffer();
+    let Number::Value(count) = fields::words(fields::field(line, 1), words) else {
+        return Verdict::Unreadable;
+    };
+    let Number::Value(bytes) = fields::decimal(fields::field(line, 2)) else {
+        return Verdict::Unreadable;
+    };
+    let Number::Value(values) = fields::decimal(fields::field(line, 3)) else {
+        return Verdict::Unreadable;
+    };
+    if text.len() < bytes {
+        return Verdict::Unreadable;
+    }
+    if spans.len() < values {
+        return Verdict::Unreadable;
+    }
+    let n = match decode_string_saveobj(
+        fields::first_words(words, count),
+        &mut text[0..bytes],
+        &mut spans[0..values],
+    ) {
+        StringsReply::Strings { bytes, strings } => {
+            render::strings(text, bytes, spans, strings, answer)
+        }
+        StringsReply::Error(error) => {
+            let kept = render::is_untouched(text, 0) && render::are_words_untouched(spans, 0);
+            render::refusal(error, kept, answer)
+        }
+    };
+    compare(line, 4, answer, n)
 }

@@ -52,6 +52,12 @@ pub fn words_buffer() -> [u64; 4096]
     [0; 4096]
 }
 
+pub fn rows_buffer() -> [[u32; 3]; 512]
+    ensures { λ r. ⌜ 512 ≡ length r ⌝ }
+{
+    [[0; 3]; 512]
+}
+
 // The first n units, none where there are fewer.
 pub fn first_units(units: &[u16], n: usize) -> &[u16] {
     if n <= units.len() {

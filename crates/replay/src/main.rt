@@ -24,9 +24,15 @@ const CLASS: usize = 6;
 
 const WORDLIST: usize = 7;
 
-const OTHER: usize = 8;
+const PROPS: usize = 8;
 
-const KINDS: usize = 9;
+const FIND: usize = 9;
+
+const PAYLOAD: usize = 10;
+
+const OTHER: usize = 11;
+
+const KINDS: usize = 12;
 
 // The longest line. No answer is longer than its line, so the calls have buffers of as many elements.
 const LINE: usize = 4096;
@@ -55,6 +61,15 @@ fn call_of(name: &[u8]) -> usize {
     }
     if fields::same(name, b"wordlist") {
         return WORDLIST;
+    }
+    if fields::same(name, b"props") {
+        return PROPS;
+    }
+    if fields::same(name, b"find") {
+        return FIND;
+    }
+    if fields::same(name, b"payload") {
+        return PAYLOAD;
     }
     OTHER
 }
@@ -85,6 +100,9 @@ fn replay(line: &[u8], seen: &mut [u64; KINDS], agreed: &mut [u64; KINDS]) {
         NAME => calls::name(line),
         CLASS => calls::class(line),
         WORDLIST => calls::wordlist(line),
+        PROPS => calls::props(line),
+        FIND => calls::find(line),
+        PAYLOAD => calls::payload(line),
         _ => Verdict::Unknown,
     };
     count(seen, call);
@@ -196,6 +214,9 @@ fn main() {
     print_total(b"name ", agreed[NAME], seen[NAME]);
     print_total(b"class ", agreed[CLASS], seen[CLASS]);
     print_total(b"wordlist ", agreed[WORDLIST], seen[WORDLIST]);
+    print_total(b"props ", agreed[PROPS], seen[PROPS]);
+    print_total(b"find ", agreed[FIND], seen[FIND]);
+    print_total(b"payload ", agreed[PAYLOAD], seen[PAYLOAD]);
     io::write_all(STDOUT_FILENO, b"other ");
     io::print_decimal(STDOUT_FILENO, seen[OTHER]);
     io::write_all(STDOUT_FILENO, b"\n");

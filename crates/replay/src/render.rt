@@ -56,6 +56,18 @@ pub fn are_words_untouched(buffer: &[u64], start: usize) -> bool {
     true
 }
 
+pub fn are_rows_untouched(rows: &[[u32; 3]], start: usize) -> bool {
+    let mut i = start;
+    while i < rows.len() {
+        let row = rows[i];
+        if row[0] != 0 || row[1] != 0 || row[2] != 0 {
+            return false;
+        }
+        i += 1;
+    }
+    true
+}
+
 // The first n bytes of a buffer, `-` for none. A call that wrote past them agrees with no line.
 fn bytes(buffer: &[u8], n: usize, out: &mut [u8], at: usize) -> usize {
     if buffer.len() < n || !is_untouched(buffer, n) {
@@ -101,6 +113,63 @@ pub fn payload(buffer: &[u64], n: usize, out: &mut [u8]) -> usize {
     let at = word(b"= ok ", out, 0);
     let at = words(buffer, n, out, at);
     word(b" #", out, at)
+}
+
+fn row(row: [u32; 3], out: &mut [u8], at: usize) -> usize {
+    let at = decimal(row[0] as u64, out, at);
+    let at = word(b",", out, at);
+    let at = decimal(row[1] as u64, out, at);
+    let at = word(b",", out, at);
+    decimal(row[2] as u64, out, at)
+}
+
+// What stands before row i.
+fn mark(i: usize) -> u8 {
+    if i == 0 { b' ' } else { b';' }
+}
+
+fn row_list(rows: &[[u32; 3]], out: &mut [u8], at: usize) -> usize {
+    let mut next = at;
+    let mut i = 0;
+    while i < rows.len() {
+        next = byte(mark(i), out, next);
+        next = row(rows[i], out, next);
+        i += 1;
+    }
+    next
+}
+
+pub fn rows(rows: &[[u32; 3]], n: usize, out: &mut [u8]) -> usize {
+    if rows.len() < n {
+        return word(b"overrun", out, 0);
+    }
+    if !are_rows_untouched(rows, n) {
+        return word(b"overrun", out, 0);
+    }
+    let at = word(b"= ok", out, 0);
+    let at = row_list(&rows[0..n], out, at);
+    word(b" #", out, at)
+}
+
+pub fn strings(text: &[u8], length: usize, spans: &[u64], n: usize, out: &mut [u8]) -> usize {
+    let at = word(b"= ok ", out, 0);
+    let at = bytes(text, length, out, at);
+    let at = word(b" ", out, at);
+    if spans.len() / 2 < n {
+        return word(b"overrun", out, at);
+    }
+    let at = words(spans, 2 * n, out, at);
+    word(b" #", out, at)
+}
+
+pub fn number(value: u64, out: &mut [u8]) -> usize {
+    let at = word(b"= ok ", out, 0);
+    let at = decimal(value, out, at);
+    word(b" #", out, at)
+}
+
+pub fn none(out: &mut [u8]) -> usize {
+    word(b"= ok none #", out, 0)
 }
 
 pub fn numbers(first: u64, second: u64, third: u64, out: &mut [u8]) -> usize {
