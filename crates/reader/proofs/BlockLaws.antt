@@ -9,7 +9,7 @@ use native.Mathlib.Omega.{arith}
 use borrow.Author.Tests.{le-leb, lt-leb, leb-true}
 use lib.Dec.{leb}
 use lib.ListN.{length}
-use Rattle.text.specs.Result.{Result, ok, error, check, _>>_}
+use Rattle.text.specs.Result.{Result, ok, error, check}
 use Rattle.text.proofs.TestLaws.{either}
 use Rattle.text.proofs.ResultLaws.{check-passed}
 use Rattle.reader.specs.Blocks.{blockEnd, nextBlock, blockAt, blocksCount, blocksFrom, blocks, HasBlock, IsCursor, cursorAt, behindBlock, IsRegion}

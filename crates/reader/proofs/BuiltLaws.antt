@@ -12,7 +12,7 @@ use borrow.Author.Tests.{le-leb, lt-ltb, ne-eqb}
 use lib.Dec.{eqb}
 use lib.ListN.{length, getD, take}
 use lib.Seq.{slice, getD-append-add, getD-take, getD-drop}
-use Rattle.text.specs.Result.{ok, checkEach, _>>_}
+use Rattle.text.specs.Result.{ok, checkEach}
 use Rattle.text.specs.Unicode.{Below, utf8}
 use Rattle.text.specs.Utf8.{table, find, sequenceLength, matched, valueAt, wholeAt, nextAt, stepAt, partsCount, partsFrom, repaired}
 use Rattle.text.proofs.ResultLaws.{checkEach-yes, each-holds}
@@ -21,6 +21,7 @@ use Rattle.writer.specs.FileWrapper.{u32Bytes, u32s, regions, offsetsFrom, file
 use Rattle.writer.proofs.FileWrapperLaws.{offsets-are, length-file-wrapper}
 use Rattle.writer.proofs.LayoutLaws.{offset-next, file-words, file-heap, classes-at, block-0, block-at, record-at, normal-0}
 use Rattle.reader.specs.Blocks.{nextBlock, blockAt, blocksFrom, blocks}
+use Rattle.reader.specs.Decode.{anyName, stringName}
 use Rattle.reader.specs.Names.{pieces, nameBytes}
 use Rattle.reader.specs.Objects.{checkBlock, blockStart, propertyCount, recordRow, objectOf, triplesFrom, checkTriple, checkTriples, recordTriples, objectTriples, position, findProperty}
 use Rattle.reader.specs.Opening as opening
@@ -66,13 +67,6 @@ word-at : (b : List ℕ) (a e : ℕ) (vs : List ℕ) → slice a e b ≡ u32s vs
 word-at b a e vs s l f k h = sym (word-in b a e (4 * k) (omega arith)) ∙ ap (λ (x : List ℕ). u32At x (4 * k)) s ∙ word-of vs k f h
 
 -- ---- what is read
-
--- the two names of the heap
-abbrev pub anyName : List ℕ
-anyName = 0x61 ∷ 0x6E ∷ 0x79 ∷ []
-
-abbrev pub stringName : List ℕ
-stringName = 0x73 ∷ 0x74 ∷ 0x72 ∷ 0x69 ∷ 0x6E ∷ 0x67 ∷ []
 
 -- what opening the blob for n objects gives
 abbrev pub built : ℕ → FileWrapper
@@ -199,7 +193,7 @@ module _ (n : ℕ) (few : n ≤ 349522) where
 
   -- ---- names
 
-  names-are : (shown b w 1 ≡ anyName) × (shown b w 2 ≡ stringName)
+  pub names-are : (shown b w 1 ≡ anyName) × (shown b w 2 ≡ stringName)
   unfolding nameBytes pieces table find sequenceLength matched valueAt wholeAt nextAt stepAt partsCount partsFrom repaired utf8 flatMap
   names-are = (rw (file-heap n), rw (file-heap n))
 
@@ -222,7 +216,7 @@ module _ (n : ℕ) (few : n ≤ 349522) where
         let o : ℕ = 96 + 16 * n + 24 * id in
         rw (its-word 0 o (omega arith) (omega arith), its-word 3 (o + 12) (omega arith) (omega arith), its-word 4 (o + 16) (omega arith) (omega arith), its-word 5 (o + 20) (omega arith) (omega arith))
 
-    object-checked : checkObject w id ≡ ok tt
+    pub object-checked : checkObject w id ≡ ok tt
     unfolding checkObject
     object-checked = simp (le-leb 1 id least, lt-ltb id (n + 1) (omega arith))
 
@@ -247,14 +241,17 @@ module _ (n : ℕ) (few : n ≤ 349522) where
     unfolding recordRow
     built-object = ap (recordRow b w) record-is ∙ simp (block-checked, one-property, not-0)
 
-    pub built-class : objectClassText (fileWrapper n) id ≡ ok stringName
-    unfolding objectClassText classOf entryText
-    built-class =
-        rw (built-opens, object-checked)
-        (ap (λ (r : ObjectRecord). classOf b w (r .«class_id»)) record-is
-        ∙ simp (class-word 4 (omega arith), class-word 5 (omega arith)) (ap ok (names-are .1)))
+    pub class-is : classOf b w (objectRecord b w id .«class_id») ≡ ok stringName
+    unfolding classOf entryText
+    class-is =
+        ap (λ (r : ObjectRecord). classOf b w (r .«class_id»)) record-is
+        ∙ simp (class-word 4 (omega arith), class-word 5 (omega arith)) (ap ok (names-are .1))
 
-    triples-are : recordTriples b w (objectRecord b w id) ≡ ok ((record { «name_idx» = 1; «field_type» = 1; value = id - 1 }) ∷ [])
+    pub built-class : objectClassText (fileWrapper n) id ≡ ok stringName
+    unfolding objectClassText
+    built-class = rw (built-opens, object-checked) class-is
+
+    pub triples-are : recordTriples b w (objectRecord b w id) ≡ ok ((record { «name_idx» = 1; «field_type» = 1; value = id - 1 }) ∷ [])
     unfolding recordTriples checkTriples checkTriple triplesFrom
     triples-are =
         let p : ℕ = 96 + 16 * (id - 1) in

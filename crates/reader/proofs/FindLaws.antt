@@ -37,18 +37,18 @@ use Rattle.reader.proofs.PieceLaws.{Standing, stand-start, stand-inside
 -- ---- the first element for which a test holds
 
 module _ {A : Type 0} (p : A → Bool) where
-  first-le : (xs : List A) → firstIndex p xs ≤ length xs
+  pub first-le : (xs : List A) → firstIndex p xs ≤ length xs
   unfolding firstIndex
   first-le [] = omega arith
   first-le (x ∷ xs) = either (p x) (λ e. simp e (omega arith)) (λ e. simp e (omega (arith, first-le xs)))
 
-  position-none : (xs : List A) → firstIndex p xs ≡ length xs → position p xs ≡ none
+  pub position-none : (xs : List A) → firstIndex p xs ≡ length xs → position p xs ≡ none
   unfolding firstIndex position
   position-none [] h = refl
   position-none (x ∷ xs) h =
       either (p x) (λ e. absurd (omega (arith, simp e at h))) (λ e. simp (e, position-none xs (omega (arith, simp e at h))))
 
-  position-some : (xs : List A) → (firstIndex p xs ≡ length xs → ⊥) → position p xs ≡ some (firstIndex p xs)
+  pub position-some : (xs : List A) → (firstIndex p xs ≡ length xs → ⊥) → position p xs ≡ some (firstIndex p xs)
   unfolding firstIndex position
   position-some [] h = absurd (h refl)
   position-some (x ∷ xs) h =
@@ -240,7 +240,7 @@ failed (ok a) f g h = rw h
 failed (error n) f g {e} h = let z : n ≡ e = cc in ap error z
 
 -- checks before two steps are checks before the first
-seq-bind : {A B C : Type 0} (m : Result A) (k : Result B) (f : B → Result C) → (m >> (k >>= f)) ≡ ((m >> k) >>= f)
+pub seq-bind : {A B C : Type 0} (m : Result A) (k : Result B) (f : B → Result C) → (m >> (k >>= f)) ≡ ((m >> k) >>= f)
 seq-bind (ok a) k f = refl
 seq-bind (error e) k f = refl
 

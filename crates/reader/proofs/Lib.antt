@@ -1,10 +1,15 @@
 pub mod BlockLaws
+pub mod BothLaws
 pub mod BuiltLaws
+pub mod CanonicalLaws
+pub mod CellLaws
 pub mod ClassLaws
+pub mod DecodeStringLaws
 pub mod FindLaws
 pub mod HeaderLaws
 pub mod LengthLaws
 pub mod LineLaws
+pub mod ListingLaws
 pub mod NameLaws
 pub mod ObjectLaws
 pub mod OpaqueLaws
@@ -14,6 +19,8 @@ pub mod PayloadLaws
 pub mod PieceLaws
 pub mod PropertyLaws
 pub mod RoundTrip
+pub mod StringClassLaws
 pub mod StringLaws
+pub mod StringObjectLaws
 pub mod TextLaws
 pub mod UnitLaws

@@ -1,19 +1,19 @@
 -- The object of one id.
 -- Assumes nothing.
 use mathlib.Core.Path.{_≡_, refl, sym, ap, _∙_, subst}
-use mathlib.Core.Bool.{true, false, cond, _||_}
+use mathlib.Core.Bool.{false, cond}
 use mathlib.Core.List.{List}
 use Prim.Native.Nat.{ℕ, _+_, _*_, _≤_, _<_}
 use native.Mathlib.Omega.{arith}
-use borrow.Author.Tests.{eq-eqb, ne-eqb, lt-ltb, le-ltb, ltb-true}
+use borrow.Author.Tests.{eq-eqb, ne-eqb, lt-ltb, le-ltb}
 use lib.Dec.{eqb, ltb}
 use lib.ListN.{length}
-use Rattle.text.specs.Result.{Result, ok, error}
+use Rattle.text.specs.Result.{ok}
 use Rattle.text.specs.declared.error.MatError.the-variants.{PropertyBlockIdOutOfRange}
 use Rattle.text.proofs.TestLaws.{either}
 use Rattle.reader.specs.Blocks.{blockEnd, blockAt, HasBlock, IsCursor, cursorAt}
-use Rattle.reader.specs.Objects.{regionOf, blockIdOf, regionStart, regionBlocks, checkBlock, blockStart, propertyCount, objectRow, recordRow}
-use Rattle.reader.specs.ObjectStages.{blockOf, rowFrom, cursorOf, withCursor, firstBlocks, AreCursors, ToBlock, ToObject, objectReplyOf, IsBlock, ReadsObject}
+use Rattle.reader.specs.Objects.{regionOf, blockIdOf, regionStart, regionBlocks, checkBlock, blockStart, propertyCount, recordRow}
+use Rattle.reader.specs.ObjectStages.{blockOf, rowFrom, cursorOf, withCursor, firstBlocks, AreCursors, ToBlock, ToObject, ReadsObject}
 use Rattle.reader.specs.Opening.{Opens}
 use Rattle.reader.specs.Queries.{objectRecord}
 use Rattle.reader.specs.Wire.{u32At}

@@ -5,15 +5,16 @@ use mathlib.Core.Path.{_≡_, refl, sym, _∙_}
 use mathlib.Core.Bool.{Bool, true, false, not}
 use mathlib.Core.List.{List}
 use native.Mathlib.Omega.{arith}
-use borrow.Author.Tests.{le-leb, lt-leb, eq-eqb, ne-eqb, not-true, not-false}
-use lib.Dec.{ltb}
+use borrow.Author.Tests.{le-leb, lt-leb, eq-eqb, ne-eqb, leb-true, eqb-true, not-true, not-false}
+use lib.Dec.{leb, ltb, eqb}
 use lib.ListN.{length, getD}
 use Rattle.text.specs.Result.{ok, error, foldCount, foldRange}
 use Rattle.text.proofs.ProductLaws.{Multiplying, product-below, multiply-turn, multiply-stop, multiply-last}
-use Rattle.text.proofs.ResultLaws.{reply-is}
+use Rattle.text.proofs.ResultLaws.{reply-is, check-passed, bind-passed}
 use Rattle.writer.specs.Metadata.{objectMetadata}
 use Rattle.reader.specs.Opaque.{checkDimension, opaqueMetadata}
 use Rattle.reader.specs.Stages.{productOf}
+use Rattle.reader.specs.declared.opaque.OpaqueMetadata.{OpaqueMetadata}
 use Rattle.reader.specs.declared.opaque.Product.{Product}
 use Rattle.reader.specs.declared.opaque.Product.the-variants.{Of, OverflowAt}
 
@@ -84,6 +85,27 @@ module _ (w : List ℕ) where
 
 pub ruleset opaque-outcomes =
     (opaque-short, opaque-long, opaque-magic, opaque-truncated, opaque-overflow, opaque-mismatch, opaque-parsed)
+
+-- ---- metadata that passed: its ids lie in it
+
+pub record OpaquePassed (w : List ℕ) (m : OpaqueMetadata) : Type 0 where
+  pub there : m .«first_id» + m .ids ≤ length w
+  pub few : length w ≤ 65536
+
+pub opaque-passed : (w : List ℕ) {m : OpaqueMetadata} → opaqueMetadata w ≡ ok m → OpaquePassed w m
+unfolding opaqueMetadata
+opaque-passed w {m} e =
+    let least = check-passed 17 (leb 3 (length w)) (length w) _ e in
+    let most = check-passed 17 (leb (length w) 65536) (length w) _ (least .1) in
+    let magic = check-passed 18 (eqb (getD w 0 0) 0xDD000000) (getD w 0 0) _ (most .1) in
+    let dims = check-passed 19 (leb (2 + getD w 1 0 + 1) (length w)) (getD w 1 0) _ (magic .1) in
+    let product = bind-passed (foldRange (checkDimension w) 0 (getD w 1 0) 1) _ (dims .1) in
+    let n = product .0 in
+    let size = check-passed 21 (eqb (length w) (2 + getD w 1 0 + n + 1)) (length w) _ (product .1 .1) in
+    let k = size .1 in
+    let z : _≡_ {A = OpaqueMetadata} (record { «first_id» = 2 + getD w 1 0; ids = n; «class_id» = getD w (2 + getD w 1 0 + n) 0 }) m = cc in
+    rw (sym z)
+    (record { there = omega (arith, eqb-true (length w) (2 + getD w 1 0 + n + 1) (size .0)); few = leb-true (length w) 65536 (most .0) })
 
 -- ---- what is written for an id
 

@@ -7,7 +7,7 @@ use native.Mathlib.Omega.{arith}
 use borrow.Author.Tests.{le-leb, lt-leb, leb-true}
 use lib.ListN.{length}
 use lib.Seq.{slice}
-use Rattle.text.specs.Result.{Result, ok, check, checkEach}
+use Rattle.text.specs.Result.{Result, ok, checkEach}
 use Rattle.text.specs.declared.error.MatError.{MatError}
 use Rattle.text.specs.declared.error.MatError.the-variants.{BlobTooLong, BlobTooShort, OffsetOutOfBounds, NameHeapTooEarly, OffsetsDescending, TooFewNames, PropertyBlockTruncated}
 use Rattle.text.proofs.ResultLaws.{reply-is, checkEach-passed, Checks, checks-start, checks-turn, checks-stop, checks-last}

@@ -4,6 +4,7 @@ use Prim.Native.Nat.{ℕ, _+_, _-_, _*_, _^_, _≤_, _<_, min}
 use mathlib.Core.Path.{_≡_, refl, sym, ap, subst, _∙_}
 use mathlib.Core.List.{List}
 use mathlib.Core.Option.{some}
+use native.Mathlib.Nat.{zero-add}
 use native.Mathlib.Omega.{arith}
 use borrow.Author.Tests.{le-leb, lt-leb, leb-true}
 use lib.Dec.{leb}
@@ -17,7 +18,7 @@ use Rattle.text.specs.declared.error.MatError.the-variants.{OutputTooShort}
 use Rattle.text.proofs.BufferLaws.{put-front}
 use Rattle.text.proofs.ResultLaws.{reply-is, seq-passed, bind-passed, checkEach-passed, check-is}
 use Rattle.reader.specs.Saveobj.{unitsBefore, Header, storedUnits, storedStrings, checkHeader, checkSum, checkLengths, checkStrings, decodePayload, joined, spansFrom, intoStrings}
-use Rattle.reader.specs.SaveobjStages.{numberOf, headerOf, Counts, countsOf, stringsReplyOf, UnitsChecked, measuredStrings, StringsFit, WritesStrings, theStrings, PayloadFits, WritesPayload, DecodesStrings}
+use Rattle.reader.specs.SaveobjStages.{numberOf, headerOf, Counts, countsOf, stringsReplyOf, UnitsChecked, measuredStrings, StringsFit, WritesStrings, theStrings, origin, FitsAt, WritesAt, DecodesStrings}
 use Rattle.reader.specs.declared.saveobj.HeaderReply.{HeaderReply}
 use Rattle.reader.specs.declared.saveobj.HeaderReply.the-variants as header
 use Rattle.reader.specs.declared.saveobj.NumberReply.{NumberReply}
@@ -28,7 +29,7 @@ use Rattle.reader.specs.declared.saveobj.StringsReply.the-variants as re
 use Rattle.reader.proofs.HeaderLaws.{HeaderPassed, header-passed}
 use Rattle.reader.proofs.LengthLaws.{sumFits}
 use Rattle.writer.proofs.SpanLaws.{some-is}
-use Rattle.reader.proofs.StringLaws.{isPaired, length-stored}
+use Rattle.reader.proofs.StringLaws.{isPaired, length-stored, stored-most}
 
 -- ---- checks that passed
 
@@ -79,6 +80,18 @@ payload-passed payload e =
     let q = seq-passed (checkLengths payload (h .base) (h .strings)) _ (p .1 .1) in
     let f = header-passed payload (p .1 .0) in
     (h, (p .1 .0, strings-passed payload (h .base) (h .strings) f (units-passed payload (h .base) (h .strings) f (q .1 .0)) (q .1 .1)))
+
+-- its strings are at most its words, and their bytes at most three for each of four units a word
+pub payload-most : (payload : List ℕ) {strings : List (List ℕ)} → decodePayload payload ≡ ok strings
+    → (length (joined strings) ≤ 12 * 2097152) × (length strings ≤ 2097152)
+unfolding unitsBefore
+payload-most payload {strings} e =
+    let q = payload-passed payload e in
+    let h = q .0 in
+    let p = q .1 .1 in (
+      omega (arith, ap (λ (ss : List (List ℕ)). length (joined ss)) (p .is), rw zero-add at (stored-most payload (h .base) (h .strings) (p .paired) 0 (h .strings) (omega arith)), p .checked .units, p .checked .most),
+      omega (arith, p .many, p .checked .lengths, p .checked .most),
+    )
 
 -- ---- the outcomes of `measure_payload`
 
@@ -150,7 +163,7 @@ pub ruleset measure-outcomes = (payload-header, payload-sum, payload-units, payl
 abbrev stringsIn : List ℕ → List (List ℕ)
 stringsIn payload = theStrings (decodePayload payload)
 
-module _ (payload t s : List ℕ) (at : Position) (f : PayloadFits payload (length t) (length s) at) {x : HeaderReply} (e : headerOf x ≡ checkHeader payload) where
+module _ (payload t s : List ℕ) (at : Position) (f : FitsAt (decodePayload payload) (length t) (length s) at) {x : HeaderReply} (e : headerOf x ≡ checkHeader payload) where
   module _ {base n : ℕ} (g : x ≡ header.Header base n) where
     is-passed : PayloadPassed payload base n (stringsIn payload)
     is-passed =
@@ -173,7 +186,7 @@ module _ (payload t s : List ℕ) (at : Position) (f : PayloadFits payload (leng
     put-index l = omega (arith, put-fits .spans)
 
     pub put-writes : {next : ℕ} {t' s' : List ℕ} → WritesStrings (storedStrings payload base n 0 n) (at .byte) (at .string) t s next t' s'
-        → WritesPayload payload at t s (record { byte = next; string = at .string + n }) t' s'
+        → WritesAt (decodePayload payload) at t s (record { byte = next; string = at .string + n }) t' s'
     put-writes {next} {t'} {s'} w =
         let p = is-passed in
         record {
@@ -182,7 +195,7 @@ module _ (payload t s : List ℕ) (at : Position) (f : PayloadFits payload (leng
         }
 
   -- a payload that has strings has a header
-  pub put-never : {r : MatError} → x ≡ header.Error r → WritesPayload payload at t s at t s
+  pub put-never : {r : MatError} → x ≡ header.Error r → WritesAt (decodePayload payload) at t s at t s
   put-never {r} g =
       let p = payload-passed payload (f .passed) in
       let q = sym (p .1 .0) ∙ reply-is headerOf e g in
@@ -191,7 +204,7 @@ module _ (payload t s : List ℕ) (at : Position) (f : PayloadFits payload (leng
 
 -- ---- the outcomes of `decode_string_saveobj`
 
-counts-are : (m : Result (List (List ℕ))) {b n : ℕ} → _≡_ {A = Result Counts} (mapResult countsOf m) (ok (record { bytes = b; strings = n }))
+pub counts-are : (m : Result (List (List ℕ))) {b n : ℕ} → _≡_ {A = Result Counts} (mapResult countsOf m) (ok (record { bytes = b; strings = n }))
     → (m ≡ ok (theStrings m)) × (length (joined (theStrings m)) ≡ b) × (length (theStrings m) ≡ n)
 counts-are (ok ss) {b} {n} e =
     let k : _≡_ {A = Counts} (countsOf ss) (record { bytes = b; strings = n }) = cc in
@@ -200,7 +213,7 @@ counts-are (error f) {b} {n} e =
     let z : _≡_ {A = ℕ} 0 1 = cc in
     absurd (omega arith)
 
-error-is : (m : Result (List (List ℕ))) {f : Failure} → mapResult countsOf m ≡ error f → m ≡ error f
+pub error-is : (m : Result (List (List ℕ))) {f : Failure} → mapResult countsOf m ≡ error f → m ≡ error f
 error-is (ok ss) {f} e =
     let z : _≡_ {A = ℕ} 0 1 = cc in
     absurd (omega arith)
@@ -249,7 +262,10 @@ module _ (m : Result (List (List ℕ))) (text spans : List ℕ) where
             ∙ simp
             (le-leb (length (joined (theStrings m))) (length text) (omega arith), lt-leb (2 * length (theStrings m)) (length spans) (omega arith), p))
 
-        pub decode-written : 2 * n ≤ length spans → {next : ℕ} {text' spans' : List ℕ} → WritesStrings (theStrings m) 0 0 text spans next text' spans'
+        pub decode-fits : 2 * n ≤ length spans → FitsAt m (length text) (length spans) origin
+        decode-fits room = record { passed = counts .0; text = omega (arith, counts .1); spans = omega (arith, counts .2) }
+
+        pub decode-written : 2 * n ≤ length spans → {next : Position} {text' spans' : List ℕ} → WritesAt m origin text spans next text' spans'
             → DecodesStrings m text spans (reply.Strings b n) text' spans'
         decode-written room w =
             let l = counts .1 in
@@ -258,25 +274,11 @@ module _ (m : Result (List (List ℕ))) (text spans : List ℕ) where
             (ap (λ (y : Result (List (List ℕ))). intoStrings y (length text) (length spans)) (counts .0)
             ∙ simp
             (le-leb (length (joined (theStrings m))) (length text) (omega arith), le-leb (2 * length (theStrings m)) (length spans) (omega arith)))
-            (rw (l, k)) (w .text-after ∙ put-front text (joined (theStrings m)))
-            (w .spans-after ∙ put-front spans (spansFrom 0 (theStrings m)))
+            (rw (l, k)) (w .writes .text-after ∙ put-front text (joined (theStrings m)))
+            (w .writes .spans-after ∙ put-front spans (spansFrom 0 (theStrings m)))
 
--- ---- a payload by itself
-
-module _ (payload text spans : List ℕ) {x : StringsReply} (e : stringsReplyOf x ≡ mapResult countsOf (decodePayload payload)) {b n : ℕ} (g : x ≡ reply.Strings b n) where
-  its-counts : (decodePayload payload ≡ ok (stringsIn payload)) × (length (joined (stringsIn payload)) ≡ b) × (length (stringsIn payload) ≡ n)
-  its-counts = counts-are (decodePayload payload) (reply-is stringsReplyOf e g)
-
-  -- the values of the spans fit 64 bits
-  pub decode-values : 2 * n < 2 ^ 64
-  decode-values =
-      let p = payload-passed payload (its-counts .0) .1 .1 in
-      omega (arith, its-counts .2, p .many, p .checked .lengths, p .checked .most)
-
-  module _ (fits : b ≤ length text) (room : 2 * n ≤ length spans) where
-    pub decode-fits : PayloadFits payload (length text) (length spans) (record { byte = 0; string = 0 })
-    decode-fits = record { passed = its-counts .0; text = omega (arith, its-counts .1); spans = omega (arith, its-counts .2) }
-
-    pub payload-written : {next : Position} {text' spans' : List ℕ} → WritesPayload payload (record { byte = 0; string = 0 }) text spans next text' spans'
-        → DecodesStrings (decodePayload payload) text spans (reply.Strings b n) text' spans'
-    payload-written {next} w = decode-written (decodePayload payload) text spans x e g fits room (w .writes)
+-- the values of the spans of a payload fit 64 bits
+pub decode-values : (payload : List ℕ) {x : StringsReply} {b n : ℕ} → x ≡ reply.Strings b n → stringsReplyOf x ≡ mapResult countsOf (decodePayload payload) → 2 * n < 2 ^ 64
+decode-values payload g e =
+    let c = counts-are (decodePayload payload) (reply-is stringsReplyOf e g) in
+    omega (arith, c .2, payload-most payload (c .0) .1)

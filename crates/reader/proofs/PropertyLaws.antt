@@ -1,7 +1,7 @@
 -- The outcomes of the queries for an object's properties, and the loops over its triples.
 -- Assumes nothing.
 use mathlib.Core.Path.{_≡_, refl, sym, ap, _∙_, subst}
-use mathlib.Core.Bool.{true, false, cond}
+use mathlib.Core.Bool.{true, false}
 use mathlib.Core.List.{List, [], _∷_, _++_, map}
 use Prim.Native.Nat.{ℕ, zero, suc, _+_, _-_, _*_, _^_, _≤_, _<_, min}
 use native.Mathlib.Numerals.{add-one}
@@ -9,15 +9,14 @@ use native.Mathlib.Omega.{arith}
 use borrow.Author.Tests.{le-leb, lt-leb, lt-ltb, le-ltb, eq-eqb, ne-eqb}
 use lib.Dec.{leb}
 use lib.ListN.{length, drop, set, length-append, length-drop}
-use Rattle.text.specs.Errors.{failureOf}
-use Rattle.text.specs.Result.{Result, ok, error, mapResult, overwritten}
+use Rattle.text.specs.Result.{ok}
 use Rattle.text.specs.declared.error.MatError.{MatError}
 use Rattle.text.specs.declared.error.MatError.the-variants.{ObjectIdOutOfRange, NameIndexOutOfRange, UnknownFieldType, OutputTooShort}
 use Rattle.text.proofs.ResultLaws.{reply-is, seq-passed, seq-failed}
 use Rattle.reader.specs.Objects.{checkBlock, objectRow, triplesFrom, triplesOf, checkTriple, checkTriples, recordRow, recordTriples, objectTriples, rowOf}
 use Rattle.reader.specs.ObjectStages.{firstBlocks, ToObject, objectReplyOf, IsBlock, Stands, ReadsObject, TriplesIn, triplesReplyOf, PassedTriples, Triples, RecordTriples, ReadsTriples}
 use Rattle.reader.specs.Opening.{opened, Opens}
-use Rattle.reader.specs.Queries.{objectRecord, checkObject, intoOutput}
+use Rattle.reader.specs.Queries.{objectRecord, checkObject}
 use Rattle.reader.specs.Replies.{parseReplyOf, checkedOf, WritesRows}
 use Rattle.reader.specs.Wire.{tripleAt}
 use Rattle.reader.specs.declared.file_wrapper.Checked.{Checked}

@@ -3,8 +3,9 @@
 use Prim.Native.Nat.{ℕ, zero, suc, _+_, _-_, _*_, _^_, _≤_, _<_}
 use mathlib.Core.Path.{_≡_, refl, sym, ap, subst, _∙_}
 use mathlib.Core.Bool.{Bool, true, false}
-use mathlib.Core.List.{List, [], _∷_, _++_, flatMap}
-use mathlib.Core.Option.{Option·map}
+use mathlib.Core.List.{List, [], _∷_, _++_, append-assoc, flatMap}
+use mathlib.Core.Option.{some, Option·map}
+use native.Mathlib.Nat.{add-zero}
 use native.Mathlib.Numerals.{add-one}
 use native.Mathlib.Omega.{arith}
 use lib.ListN.{length, take, set, length-set, length-append}
@@ -29,6 +30,21 @@ use Rattle.reader.proofs.UnitLaws.{text-most}
 pub joined-cons : (s : List ℕ) (ss : List (List ℕ)) → joined (s ∷ ss) ≡ s ++ joined ss
 unfolding flatMap
 joined-cons s ss = refl
+
+pub joined-append : (ss ts : List (List ℕ)) → joined (ss ++ ts) ≡ joined ss ++ joined ts
+unfolding flatMap
+joined-append [] ts = refl
+joined-append (s ∷ ss) ts = ap (λ (r : List ℕ). s ++ r) (joined-append ss ts) ∙ sym (append-assoc s (joined ss) (joined ts))
+
+pub length-joined : (ss ts : List (List ℕ)) → length (joined (ss ++ ts)) ≡ length (joined ss) + length (joined ts)
+length-joined ss ts = ap length (joined-append ss ts) ∙ length-append (joined ss) (joined ts)
+
+pub spans-append : (o : ℕ) (ss ts : List (List ℕ)) → spansFrom o (ss ++ ts) ≡ spansFrom o ss ++ spansFrom (o + length (joined ss)) ts
+unfolding spansFrom flatMap
+spans-append o [] ts = rw (add-zero o)
+spans-append o (s ∷ ss) ts =
+    let e : o + length s + length (joined ss) ≡ o + length (s ++ joined ss) = omega (arith, length-append s (joined ss)) in
+    ap (λ (r : List ℕ). o ∷ length s ∷ r) (spans-append (o + length s) ss ts ∙ rw e)
 
 pub length-spans : (o : ℕ) (ss : List (List ℕ)) → length (spansFrom o ss) ≡ 2 * length ss
 unfolding spansFrom
@@ -72,6 +88,19 @@ module _ (payload : List ℕ) (base n : ℕ) where
 
     pub units-are : unitsIn payload (base + n) unit count ≡ storedUnits payload base n i
     units-are = rw (a, c)
+
+-- strings that pass 29 have at most three bytes for a unit
+pub stored-most : (payload : List ℕ) (base n : ℕ) → ((i : ℕ) → i < n → textOf (storedUnits payload base n i) ≡ some (theText (storedUnits payload base n i)))
+    → (i k : ℕ) → i + k ≤ n → length (joined (storedStrings payload base n i k)) + 3 * unitsBefore payload base i ≤ 3 * unitsBefore payload base (i + k)
+unfolding storedStrings flatMap
+stored-most payload base n p i zero h = rw (add-zero i) (omega arith)
+stored-most payload base n p i (suc k) h =
+    let s : List ℕ = theText (storedUnits payload base n i) in
+    let rest = storedStrings payload base n (i + 1) k in
+    let e : i + suc k ≡ i + 1 + k = omega arith in
+    rw (e, sym (add-one i))
+    (omega
+    (arith, stored-most payload base n p (i + 1) k (omega arith), units-next payload base i, length-append s (joined rest), text-most payload (base + n) (unitsBefore payload base i) (unitCount payload base i) (p i (omega arith))))
 
 -- ---- check 29
 

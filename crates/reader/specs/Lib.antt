@@ -1,4 +1,8 @@
 pub mod Blocks
+pub mod CellStages
+pub mod Cells
+pub mod Decode
+pub mod DecodeStages
 pub mod Lines
 pub mod Names
 pub mod ObjectStages
@@ -10,5 +14,6 @@ pub mod Replies
 pub mod Saveobj
 pub mod SaveobjStages
 pub mod Stages
+pub mod StringObjectStages
 pub mod Units
 pub mod Wire

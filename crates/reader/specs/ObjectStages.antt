@@ -1,27 +1,32 @@
 -- What the private stages of reading objects and their properties promise each other.
 -- Assumes nothing.
-use Prim.Native.Nat.{ℕ, suc, _+_, _*_, _≤_, _<_}
+use Prim.Native.Nat.{ℕ, suc, _+_, _-_, _*_, _≤_, _<_}
 use mathlib.Core.Path.{_≡_}
 use mathlib.Core.Bool.{Bool, cond}
 use mathlib.Core.List.{List, [], _∷_}
 use lib.Dec.{eqb}
-use lib.ListN.{length}
+use lib.ListN.{length, getD}
 use Rattle.text.specs.Buffer.{same}
 use Rattle.text.specs.Errors.{failureOf}
-use Rattle.text.specs.Result.{Result, ok, error}
+use Rattle.text.specs.Result.{Result, ok, error, mapResult, _>>_}
 use Rattle.text.specs.Utf8.{lossy}
 use Rattle.reader.specs.Blocks.{IsCursor}
 use Rattle.reader.specs.Names.{pieceBytes}
-use Rattle.reader.specs.Objects.{regionOf, blockIdOf, regionBlocks, blockStart, recordRow, triplesFrom, checkTriples, recordTriples, objectTriples}
+use Rattle.reader.specs.Objects.{regionOf, blockIdOf, regionBlocks, blockStart, recordRow, objectsFrom, objectRows, triplesFrom, checkTriples, recordTriples, objectTriples}
 use Rattle.reader.specs.Opening.{Opens}
+use Rattle.reader.specs.Queries.{intoOutput}
 use Rattle.reader.specs.declared.blocks.Cursor.{Cursor}
 use Rattle.reader.specs.declared.file_wrapper.FileWrapper.{FileWrapper}
 use Rattle.reader.specs.declared.names.Piece.{Piece}
 use Rattle.reader.specs.declared.objects.BlockId.{BlockId}
 use Rattle.reader.specs.declared.objects.Cursors.{Cursors}
+use Rattle.reader.specs.declared.objects.Listing.{Listing}
+use Rattle.reader.specs.declared.objects.Listing.the-variants as listing
+use Rattle.reader.specs.declared.objects.ObjectList.{ObjectList}
 use Rattle.reader.specs.declared.objects.ObjectReply.{ObjectReply}
 use Rattle.reader.specs.declared.objects.ObjectReply.the-variants as object
 use Rattle.reader.specs.declared.objects.ObjectRow.{ObjectRow}
+use Rattle.reader.specs.declared.objects.ObjectsReply.{ObjectsReply}
 use Rattle.reader.specs.declared.properties.TriplesReply.{TriplesReply}
 use Rattle.reader.specs.declared.properties.TriplesReply.the-variants as triples
 use Rattle.reader.specs.declared.records.ObjectRecord.{ObjectRecord}
@@ -80,6 +85,71 @@ Stands b w r (object.Error e) = Unit {0}
 pub record ReadsObject (b : List ℕ) (w : FileWrapper) (r : ObjectRecord) (x : ObjectReply) : Type 0 where
   pub reply : objectReplyOf x ≡ recordRow b w r
   pub stands : Stands b w r x
+
+-- ---- the listing
+
+-- check 10 for n objects from id on
+abbrev pub checkObjects : List ℕ → FileWrapper → ℕ → ℕ → Result (Unit {0})
+checkObjects b w id n = objectsFrom b w id n >> ok tt
+
+-- the objects of a blob, none where it is refused
+abbrev pub valuesOf : {A : Type 0} → Result (List A) → List A
+valuesOf (ok xs) = xs
+valuesOf (error e) = []
+
+abbrev pub allObjects : List ℕ → List ObjectRow
+allObjects b = valuesOf (objectRows b)
+
+abbrev pub noRow : ObjectRow
+noRow = record { «class_id» = 0; region = 0; «block_id» = 0; «property_count» = 0 }
+
+-- eight rows before a listing
+abbrev pub blankRows : List ObjectRow
+blankRows = noRow ∷ noRow ∷ noRow ∷ noRow ∷ noRow ∷ noRow ∷ noRow ∷ noRow ∷ []
+
+abbrev pub objectList : ObjectsReply → List ObjectRow → ObjectList
+objectList r rows = record { reply = r; rows = rows }
+
+abbrev pub listingReplyOf : Listing → Result ℕ
+listingReplyOf (listing.Objects w n cs row) = ok n
+listingReplyOf (listing.Refused e) = error (failureOf e)
+
+abbrev pub lastRow : Listing → ObjectRow
+lastRow (listing.Objects w n cs row) = row
+lastRow (listing.Refused e) = noRow
+
+-- how many rows a reply leaves to be written
+abbrev pub countOf : Result ℕ → ℕ
+countOf (ok n) = n
+countOf (error e) = 0
+
+-- the blob is open, its n objects pass check 10, and the cursors are its own
+pub record Listable (b : List ℕ) (w : FileWrapper) (n : ℕ) (cs : Cursors) : Type 0 where
+  pub opens : Opens b w
+  pub cursors : AreCursors b w cs
+  pub count : n ≡ w .records - 1
+  pub rows : objectsFrom b w 1 n ≡ ok (allObjects b)
+
+abbrev pub IsListing : List ℕ → Listing → Type 0
+IsListing b (listing.Objects w n cs row) = Listable b w n cs
+IsListing b (listing.Refused e) = Unit {0}
+
+-- the listing of a blob for so many rows
+pub record Lists (b : List ℕ) (room : ℕ) (x : Listing) : Type 0 where
+  pub reply : listingReplyOf x ≡ mapResult length (intoOutput (objectRows b) room)
+  pub is : IsListing b x
+
+-- object i is one of the listing's, which are few: a blob has at most 16777216 bytes
+pub record ToNext (b : List ℕ) (x : Listing) (i : ℕ) : Type 0 where
+  pub is : IsListing b x
+  pub below : i < countOf (listingReplyOf x)
+  pub few : i < 16777216
+
+-- the same listing, with object i read
+pub record NextObject (b : List ℕ) (x : Listing) (i : ℕ) (x' : Listing) : Type 0 where
+  pub reply : listingReplyOf x' ≡ listingReplyOf x
+  pub is : IsListing b x'
+  pub row : lastRow x' ≡ getD (allObjects b) i noRow
 
 -- ---- the triples of an object
 

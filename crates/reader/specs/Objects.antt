@@ -1,6 +1,6 @@
 -- Objects and their properties, each query as its checks in sequence.
 -- Assumes nothing.
-use Prim.Native.Nat.{ℕ, zero, suc, _+_}
+use Prim.Native.Nat.{ℕ, zero, suc, _+_, _-_}
 use mathlib.Core.Bool.{Bool, cond, _||_}
 use mathlib.Core.List.{List, [], _∷_}
 use mathlib.Core.Option.{Option, some, none, Option·map}
@@ -59,6 +59,20 @@ recordRow b w r = do
 
 abbrev pub objectOf : List ℕ → FileWrapper → ℕ → Result ObjectRow
 objectOf b w id = recordRow b w (objectRecord b w id)
+
+-- the n objects from id on
+unfoldable pub objectsFrom : List ℕ → FileWrapper → ℕ → ℕ → Result (List ObjectRow)
+objectsFrom b w id zero = ok []
+objectsFrom b w id (suc n) = do
+  row ← objectOf b w id
+  rows ← objectsFrom b w (suc id) n
+  ok (row ∷ rows)
+
+-- "1–7, then 10 for each id"
+unfoldable pub objectRows : List ℕ → Result (List ObjectRow)
+objectRows b = do
+  w ← opened b
+  objectsFrom b w 1 (w .records - 1)
 
 -- the n triples from byte i on
 unfoldable pub triplesFrom : List ℕ → ℕ → ℕ → List Triple

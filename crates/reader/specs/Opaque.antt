@@ -1,6 +1,6 @@
 -- Opaque metadata (01's word list): "magic, number of dimensions, dimensions, ids, class". Checks 17 to 21.
 -- Assumes nothing.
-use Prim.Native.Nat.{ℕ, _+_, _-_, _*_, _^_}
+use Prim.Native.Nat.{ℕ, _+_, _*_, _^_}
 use mathlib.Core.List.{List}
 use lib.Dec.{leb, ltb, eqb}
 use lib.ListN.{length, getD}

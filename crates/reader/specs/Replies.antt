@@ -7,7 +7,7 @@ use mathlib.Core.Option.{Option, some, none}
 use lib.ListN.{length}
 use Rattle.text.specs.Errors.{failureOf}
 use Rattle.text.specs.Result.{Result, ok, error, mapResult, overwritten}
-use Rattle.reader.specs.Objects.{rowOf}
+use Rattle.reader.specs.Objects.{rowOf, objectRows}
 use Rattle.reader.specs.Queries.{intoOutput}
 use Rattle.reader.specs.declared.file_wrapper.FileWrapper.{FileWrapper}
 use Rattle.reader.specs.declared.file_wrapper.ParseReply.{ParseReply}
@@ -20,6 +20,9 @@ use Rattle.reader.specs.declared.find.FindReply.{FindReply}
 use Rattle.reader.specs.declared.find.FindReply.the-variants as find
 use Rattle.reader.specs.declared.names.NameReply.{NameReply}
 use Rattle.reader.specs.declared.names.NameReply.the-variants as name
+use Rattle.reader.specs.declared.objects.ObjectRow.{ObjectRow}
+use Rattle.reader.specs.declared.objects.ObjectsReply.{ObjectsReply}
+use Rattle.reader.specs.declared.objects.ObjectsReply.the-variants as objects
 use Rattle.reader.specs.declared.properties.PropertiesReply.{PropertiesReply}
 use Rattle.reader.specs.declared.properties.PropertiesReply.the-variants as properties
 use Rattle.reader.specs.declared.records.Triple.{Triple}
@@ -62,3 +65,13 @@ abbrev pub findReplyOf : FindReply → Result (Option ℕ)
 findReplyOf (find.Found i) = ok (some i)
 findReplyOf find.NotFound = ok none
 findReplyOf (find.Error e) = error (failureOf e)
+
+-- how many objects there are, or the refusal
+abbrev pub objectsReplyOf : ObjectsReply → Result ℕ
+objectsReplyOf (objects.Objects n) = ok n
+objectsReplyOf (objects.Error e) = error (failureOf e)
+
+-- a call that writes a row for each object
+pub record WritesObjects (b : List ℕ) (rows : List ObjectRow) (r : ObjectsReply) (rows' : List ObjectRow) : Type 0 where
+  pub reply : objectsReplyOf r ≡ mapResult length (intoOutput (objectRows b) (length rows))
+  pub buffer : rows' ≡ overwritten (λ x. x) (intoOutput (objectRows b) (length rows)) rows

@@ -16,7 +16,7 @@ use Rattle.reader.specs.declared.saveobj.HeaderReply.the-variants as hea
 use Rattle.reader.specs.declared.saveobj.StringsReply.{StringsReply}
 use Rattle.reader.specs.declared.saveobj.StringsReply.the-variants as strings
 use Rattle.reader.specs.declared.saveobj.Position.{Position}
-use Rattle.reader.specs.Saveobj.{Header, unitsBefore, storedUnits, storedStrings, checkStrings, decodePayload, joined, spansFrom, intoStrings}
+use Rattle.reader.specs.Saveobj.{Header, unitsBefore, storedUnits, storedStrings, checkStrings, joined, spansFrom, intoStrings}
 
 -- ---- replies
 
@@ -70,15 +70,20 @@ abbrev pub theStrings : Result (List (List ℕ)) → List (List ℕ)
 theStrings (ok ss) = ss
 theStrings (error e) = []
 
--- 22 to 29 hold of a payload, and there is room for its strings and their spans at a position
-pub record PayloadFits (payload : List ℕ) (textRoom spanRoom : ℕ) (at : Position) : Type 0 where
-  pub passed : decodePayload payload ≡ ok (theStrings (decodePayload payload))
-  pub text : at .byte + length (joined (theStrings (decodePayload payload))) ≤ textRoom
-  pub spans : 2 * (at .string + length (theStrings (decodePayload payload))) ≤ spanRoom
+-- the start of the text and of the spans
+abbrev pub origin : Position
+origin = record { byte = 0; string = 0 }
 
-pub record WritesPayload (payload : List ℕ) (at : Position) (text spans : List ℕ) (next : Position) (text' spans' : List ℕ) : Type 0 where
-  pub strings : next .string ≡ at .string + length (theStrings (decodePayload payload))
-  pub writes : WritesStrings (theStrings (decodePayload payload)) (at .byte) (at .string) text spans (next .byte) text' spans'
+-- a result has strings, and there is room for them and their spans at a position
+pub record FitsAt (m : Result (List (List ℕ))) (textRoom spanRoom : ℕ) (at : Position) : Type 0 where
+  pub passed : m ≡ ok (theStrings m)
+  pub text : at .byte + length (joined (theStrings m)) ≤ textRoom
+  pub spans : 2 * (at .string + length (theStrings m)) ≤ spanRoom
+
+-- the strings of a result are written at a position, and their spans; next is the position after them
+pub record WritesAt (m : Result (List (List ℕ))) (at : Position) (text spans : List ℕ) (next : Position) (text' spans' : List ℕ) : Type 0 where
+  pub strings : next .string ≡ at .string + length (theStrings m)
+  pub writes : WritesStrings (theStrings m) (at .byte) (at .string) text spans (next .byte) text' spans'
 
 -- ---- the call
 

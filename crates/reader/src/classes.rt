@@ -1,4 +1,5 @@
 // The classes of a metadata blob.
+use crate::file_wrapper::Checked;
 use crate::file_wrapper::FileWrapper;
 use crate::file_wrapper::ParseReply;
 use crate::names::NameReply;
@@ -9,18 +10,21 @@ use crate::records::ClassEntry;
 use crate::records::ObjectRecord;
 use text::error::MatError;
 use text::utf8::LossyLength;
+use text::utf8::is_lossy;
 use text::utf8::lossy_length;
 use text::utf8::put_lossy;
+ghost use mathlib.Core.Path.{_≡_};
 ghost use mathlib.Core.List.{_∷_, _++_};
 ghost use Prim.Native.Nat.{_≤_, _+_};
 ghost use lib.ListN.{length};
 ghost use Rattle.text.specs.Buffer.{Puts};
 ghost use Rattle.text.specs.Result.{ok};
 ghost use Rattle.text.specs.Utf8.{lossy};
+ghost use Rattle.reader.specs.Decode.{checkString, stringClass};
 ghost use Rattle.reader.specs.Names.{pieceBytes, InBlob, IsLength, BothInBlob};
 ghost use Rattle.reader.specs.Opening.{Opens};
 ghost use Rattle.reader.specs.Queries.{entryText, classOf, classText, objectClassText};
-ghost use Rattle.reader.specs.Replies.{WritesText};
+ghost use Rattle.reader.specs.Replies.{checkedOf, WritesText};
 
 // The repaired length of a piece.
 fn piece_length(blob: &[u8], piece: Piece) -> usize
@@ -90,6 +94,42 @@ fn write_class(blob: &[u8], w: FileWrapper, class_id: u32, text: &mut [u8]) -> N
     }
     let entry = ClassEntry::read(blob, w.offsets.o0 + ClassEntry::SIZE * class_id as usize);
     write_entry(blob, w, entry, text)
+}
+
+// Whether a class entry is string: check 11 for its name and its namespace, and 16. With a namespace it shows a full stop, which string
+// has not.
+fn check_string_entry(blob: &[u8], w: FileWrapper, entry: ClassEntry) -> Checked
+    requires { ⌜ Opens (now blob) w ⌝ }
+    ensures { λ r. ⌜ checkedOf r ≡ checkString (entryText (now (blob .entry)) w entry) ⌝ }
+{
+    if w.names < entry.name_idx {
+        return Checked::Failed(MatError::NameIndexOutOfRange(entry.name_idx as u64));
+    }
+    if w.names < entry.namespace_idx {
+        return Checked::Failed(MatError::NameIndexOutOfRange(entry.namespace_idx as u64));
+    }
+    if entry.namespace_idx != 0 {
+        return Checked::Failed(MatError::NotStringObject(0));
+    }
+    let name = name_piece(blob, w.offsets.o0, entry.name_idx as usize);
+    let start = name.start;
+    let end = name.end;
+    if is_lossy(&blob[start..end], b"string") {
+        return Checked::Passed;
+    }
+    Checked::Failed(MatError::NotStringObject(0))
+}
+
+// Whether an opened blob's class is string: check 9, then those of its entry.
+pub(crate) fn check_string_class(blob: &[u8], w: FileWrapper, class_id: u32) -> Checked
+    requires { ⌜ Opens (now blob) w ⌝ }
+    ensures { λ r. ⌜ checkedOf r ≡ stringClass (now (blob .entry)) w «class_id» ⌝ }
+{
+    if w.classes <= class_id as usize {
+        return Checked::Failed(MatError::ClassIdOutOfRange(class_id as u64));
+    }
+    let entry = ClassEntry::read(blob, w.offsets.o0 + ClassEntry::SIZE * class_id as usize);
+    check_string_entry(blob, w, entry)
 }
 
 // The class of an id, as it is shown, at the start of text.

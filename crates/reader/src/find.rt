@@ -44,7 +44,13 @@ fn nearer(blob: &[u8], at: usize, best: usize, index: u32, piece: Piece, wanted:
 
 // The position of the first triple whose shown name is wanted, else count. The name heap is walked once: each declared name that is
 // wanted moves the position to an earlier triple that has it.
-fn first_named(blob: &[u8], w: FileWrapper, at: usize, count: usize, wanted: &[u8]) -> usize
+pub(crate) fn first_named(
+    blob: &[u8],
+    w: FileWrapper,
+    at: usize,
+    count: usize,
+    wanted: &[u8],
+) -> usize
     requires { ⌜ PassedTriples (now blob) w at count ⌝ }
     ensures { λ r. ⌜ r ≡ firstIndex (isNamed (now (blob .entry)) w (now (wanted .entry))) (triplesFrom (now (blob .entry)) at count) ⌝ }
 {

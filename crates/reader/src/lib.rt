@@ -1,6 +1,8 @@
 // Reading string objects: the metadata blob, opaque metadata, and saveobj payloads.
 mod blocks;
+mod cells;
 pub mod classes;
+pub mod decode;
 pub mod file_wrapper;
 pub mod find;
 pub mod lines;
@@ -10,4 +12,5 @@ pub mod opaque;
 pub mod properties;
 mod records;
 pub mod saveobj;
+pub mod string_objects;
 mod units;

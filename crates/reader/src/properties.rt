@@ -66,7 +66,7 @@ pub(crate) enum TriplesReply {
 }
 
 // Checks 10 to 12 for an object that the blob has.
-fn record_triples(blob: &[u8], w: FileWrapper, object_id: u32) -> TriplesReply
+pub(crate) fn record_triples(blob: &[u8], w: FileWrapper, object_id: u32) -> TriplesReply
     requires { ⌜ Opens (now blob) w × («object_id» < w .records) ⌝ }
     ensures { λ r. ⌜ RecordTriples (now (blob .entry)) w (objectRecord (now (blob .entry)) w «object_id») r ⌝ }
 {

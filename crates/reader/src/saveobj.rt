@@ -12,7 +12,7 @@ ghost use Prim.Native.Nat.{_+_, _≤_, _<_};
 ghost use lib.ListN.{length};
 ghost use Rattle.text.specs.Result.{mapResult};
 ghost use Rattle.reader.specs.Saveobj.{unitCount, storedStrings, checkDims, checkHeader, checkSum, decodePayload};
-ghost use Rattle.reader.specs.SaveobjStages.{numberOf, headerOf, countsOf, stringsReplyOf, measuredStrings, UnitsChecked, StringsFit, WritesStrings, PayloadFits, WritesPayload, DecodesStrings};
+ghost use Rattle.reader.specs.SaveobjStages.{numberOf, headerOf, countsOf, stringsReplyOf, measuredStrings, UnitsChecked, StringsFit, WritesStrings, FitsAt, WritesAt, DecodesStrings};
 
 // The length that marks a missing string.
 const MISSING: u64 = 0xFFFF_FFFF_FFFF_FFFF;
@@ -193,8 +193,8 @@ fn put_strings(
 
 // Where the next string goes: its first byte, and its index among the spans.
 pub(crate) struct Position {
-    byte: usize,
-    string: usize,
+    pub(crate) byte: usize,
+    pub(crate) string: usize,
 }
 
 // Writes the strings of a payload that was measured, and returns the position after them.
@@ -204,8 +204,8 @@ pub(crate) fn put_payload(
     spans: &mut [u64],
     at: Position,
 ) -> Position
-    requires { ⌜ PayloadFits (now payload) (length (now text)) (length (now spans)) at ⌝ }
-    ensures { λ r. ⌜ WritesPayload (now (payload .entry)) at (now (text .entry)) (now (spans .entry)) r (now (text .exit)) (now (spans .exit)) ⌝ }
+    requires { ⌜ FitsAt (decodePayload (now payload)) (length (now text)) (length (now spans)) at ⌝ }
+    ensures { λ r. ⌜ WritesAt (decodePayload (now (payload .entry))) at (now (text .entry)) (now (spans .entry)) r (now (text .exit)) (now (spans .exit)) ⌝ }
 {
     match read_header(payload) {
         HeaderReply::Header { base, strings } => {

@@ -3,17 +3,21 @@ use crate::fields;
 use crate::fields::Number;
 use crate::render;
 use reader::classes::object_class_name;
+use reader::decode::decode_string;
 use reader::file_wrapper::FileWrapper;
 use reader::file_wrapper::ParseReply;
 use reader::find::FindReply;
 use reader::find::find_property;
 use reader::names::NameReply;
+use reader::objects::ObjectsReply;
+use reader::objects::list_eight;
 use reader::opaque::OpaqueReply;
 use reader::opaque::parse_opaque_metadata;
 use reader::properties::PropertiesReply;
 use reader::properties::properties;
 use reader::saveobj::StringsReply;
 use reader::saveobj::decode_string_saveobj;
+use reader::string_objects::decode_string_object;
 use text::error::MatError;
 use text::utf8::LossyReply;
 use text::utf16::TextReply;
@@ -309,11 +313,18 @@ pub fn payload(line: &[u8]) -> Verdict {
     if spans.len() < values {
         return Verdict::Unreadable;
     }
-    let n = match decode_string_saveobj(
+    let reply = decode_string_saveobj(
         fields::first_words(words, count),
         &mut text[0..bytes],
         &mut spans[0..values],
-    ) {
+    );
+    let n = strings_answer(reply, text, spans, answer);
+    compare(line, 4, answer, n)
+}
+
+// The answer of a call that decodes strings.
+fn strings_answer(reply: StringsReply, text: &[u8], spans: &[u64], answer: &mut [u8]) -> usize {
+    match reply {
         StringsReply::Strings { bytes, strings } => {
             render::strings(text, bytes, spans, strings, answer)
         }
@@ -321,6 +332,115 @@ pub fn payload(line: &[u8]) -> Verdict {
             let kept = render::is_untouched(text, 0) && render::are_words_untouched(spans, 0);
             render::refusal(error, kept, answer)
         }
+    }
+}
+
+// The number of metadata words of the first road, or the id of the second.
+fn road_target(field: &[u8], is_first: bool, metadata: &mut [u32]) -> Number {
+    if is_first {
+        return fields::words32(field, metadata);
+    }
+    fields::decimal(field)
+}
+
+// The strings that a road gives.
+fn decode_road(
+    blob: &[u8],
+    directory: &[u64],
+    kinds: &[u8],
+    words: &[u64],
+    metadata: &[u32],
+    is_first: bool,
+    id: u32,
+    text: &mut [u8],
+    spans: &mut [u64],
+) -> StringsReply {
+    if is_first {
+        return decode_string(blob, directory, kinds, words, metadata, text, spans);
+    }
+    decode_string_object(blob, directory, kinds, words, id, text, spans)
+}
+
+// Both roads: BLOB DIRECTORY KINDS WORDS METADATA-or-id text-length spans-length
+fn road(line: &[u8], is_first: bool) -> Verdict {
+    let blob: &mut [u8] = &mut io::buffer();
+    let directory: &mut [u64] = &mut fields::words_buffer();
+    let kinds: &mut [u8] = &mut io::buffer();
+    let words: &mut [u64] = &mut fields::words_buffer();
+    let metadata: &mut [u32] = &mut fields::words32_buffer();
+    let text: &mut [u8] = &mut io::buffer();
+    let spans: &mut [u64] = &mut fields::words_buffer();
+    let answer: &mut [u8] = &mut io::buffer();
+    let Number::Value(blob_bytes) = fields::bytes(fields::field(line, 1), blob) else {
+        return Verdict::Unreadable;
     };
-    compare(line, 4, answer, n)
+    let Number::Value(entries) = fields::words(fields::field(line, 2), directory) else {
+        return Verdict::Unreadable;
+    };
+    let Number::Value(kind_bytes) = fields::bytes(fields::field(line, 3), kinds) else {
+        return Verdict::Unreadable;
+    };
+    let Number::Value(word_count) = fields::words(fields::field(line, 4), words) else {
+        return Verdict::Unreadable;
+    };
+    let Number::Value(target) = road_target(fields::field(line, 5), is_first, metadata) else {
+        return Verdict::Unreadable;
+    };
+    let Number::Value(bytes) = fields::decimal(fields::field(line, 6)) else {
+        return Verdict::Unreadable;
+    };
+    let Number::Value(values) = fields::decimal(fields::field(line, 7)) else {
+        return Verdict::Unreadable;
+    };
+    if text.len() < bytes {
+        return Verdict::Unreadable;
+    }
+    if spans.len() < values {
+        return Verdict::Unreadable;
+    }
+    if 0xFFFF_FFFF < target {
+        return Verdict::Unreadable;
+    }
+    let reply = decode_road(
+        fields::part(blob, 0, blob_bytes),
+        fields::first_words(directory, entries),
+        fields::part(kinds, 0, kind_bytes),
+        fields::first_words(words, word_count),
+        fields::first_words32(metadata, target),
+        is_first,
+        target as u32,
+        &mut text[0..bytes],
+        &mut spans[0..values],
+    );
+    let n = strings_answer(reply, text, spans, answer);
+    compare(line, 8, answer, n)
+}
+
+// road1, through opaque metadata
+pub fn road1(line: &[u8]) -> Verdict {
+    road(line, true)
+}
+
+// road2, through the object's property
+pub fn road2(line: &[u8]) -> Verdict {
+    road(line, false)
+}
+
+// objects BLOB rows-length, where the rows are enough: the listing by value has eight
+pub fn objects(line: &[u8]) -> Verdict {
+    let blob: &mut [u8] = &mut io::buffer();
+    let answer: &mut [u8] = &mut io::buffer();
+    let Number::Value(bytes) = fields::bytes(fields::field(line, 1), blob) else {
+        return Verdict::Unreadable;
+    };
+    let list = list_eight(fields::part(blob, 0, bytes));
+    let reply = list.reply;
+    let rows = list.rows;
+    let n = match reply {
+        ObjectsReply::Objects(count) => render::objects(rows, count, answer),
+        ObjectsReply::Error(error) => {
+            render::refusal(error, render::are_objects_untouched(rows, 0), answer)
+        }
+    };
+    compare(line, 3, answer, n)
 }

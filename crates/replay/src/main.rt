@@ -30,9 +30,15 @@ const FIND: usize = 9;
 
 const PAYLOAD: usize = 10;
 
-const OTHER: usize = 11;
+const ROAD1: usize = 11;
 
-const KINDS: usize = 12;
+const ROAD2: usize = 12;
+
+const OBJECTS: usize = 13;
+
+const OTHER: usize = 14;
+
+const KINDS: usize = 15;
 
 // The longest line. No answer is longer than its line, so the calls have buffers of as many elements.
 const LINE: usize = 4096;
@@ -71,6 +77,15 @@ fn call_of(name: &[u8]) -> usize {
     if fields::same(name, b"payload") {
         return PAYLOAD;
     }
+    if fields::same(name, b"road1") {
+        return ROAD1;
+    }
+    if fields::same(name, b"road2") {
+        return ROAD2;
+    }
+    if fields::same(name, b"objects") {
+        return OBJECTS;
+    }
     OTHER
 }
 
@@ -103,6 +118,9 @@ fn replay(line: &[u8], seen: &mut [u64; KINDS], agreed: &mut [u64; KINDS]) {
         PROPS => calls::props(line),
         FIND => calls::find(line),
         PAYLOAD => calls::payload(line),
+        ROAD1 => calls::road1(line),
+        ROAD2 => calls::road2(line),
+        OBJECTS => calls::objects(line),
         _ => Verdict::Unknown,
     };
     count(seen, call);
@@ -217,6 +235,9 @@ fn main() {
     print_total(b"props ", agreed[PROPS], seen[PROPS]);
     print_total(b"find ", agreed[FIND], seen[FIND]);
     print_total(b"payload ", agreed[PAYLOAD], seen[PAYLOAD]);
+    print_total(b"road1 ", agreed[ROAD1], seen[ROAD1]);
+    print_total(b"road2 ", agreed[ROAD2], seen[ROAD2]);
+    print_total(b"objects ", agreed[OBJECTS], seen[OBJECTS]);
     io::write_all(STDOUT_FILENO, b"other ");
     io::print_decimal(STDOUT_FILENO, seen[OTHER]);
     io::write_all(STDOUT_FILENO, b"\n");

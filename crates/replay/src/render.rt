@@ -1,6 +1,8 @@
 // Our answer as a line has it, from `=` to `#`, in a buffer. A function that takes an index writes from there on, and returns the
 // index after what it wrote. What does not fit is dropped: the buffer is as long as the longest line, so no line holds such an answer.
+use reader::objects::ObjectRow;
 use text::error::MatError;
+ghost use Prim.Native.Nat.{_≤_};
 
 fn byte(value: u8, out: &mut [u8], at: usize) -> usize {
     if at < out.len() {
@@ -116,9 +118,7 @@ pub fn payload(buffer: &[u64], n: usize, out: &mut [u8]) -> usize {
 }
 
 fn row(row: [u32; 3], out: &mut [u8], at: usize) -> usize {
-    let at = decimal(row[0] as u64, out, at);
-    let at = word(b",", out, at);
-    let at = decimal(row[1] as u64, out, at);
+    let at = two(row[0], row[1], out, at);
     let at = word(b",", out, at);
     decimal(row[2] as u64, out, at)
 }
@@ -148,6 +148,59 @@ pub fn rows(rows: &[[u32; 3]], n: usize, out: &mut [u8]) -> usize {
     }
     let at = word(b"= ok", out, 0);
     let at = row_list(&rows[0..n], out, at);
+    word(b" #", out, at)
+}
+
+// Two numbers with a comma between them.
+fn two(first: u32, second: u32, out: &mut [u8], at: usize) -> usize {
+    let at = decimal(first as u64, out, at);
+    let at = word(b",", out, at);
+    decimal(second as u64, out, at)
+}
+
+fn object(row: ObjectRow, out: &mut [u8], at: usize) -> usize {
+    let at = two(row.class_id, row.region, out, at);
+    let at = word(b",", out, at);
+    two(row.block_id, row.property_count, out, at)
+}
+
+fn is_blank(row: ObjectRow) -> bool {
+    row.class_id == 0 && row.region == 0 && row.block_id == 0 && row.property_count == 0
+}
+
+pub fn are_objects_untouched(rows: [ObjectRow; 8], start: usize) -> bool {
+    let mut i = start;
+    while i < 8 {
+        if !is_blank(rows[i]) {
+            return false;
+        }
+        i += 1;
+    }
+    true
+}
+
+fn object_list(rows: [ObjectRow; 8], n: usize, out: &mut [u8], at: usize) -> usize
+    requires { ⌜ n ≤ 8 ⌝ }
+{
+    let mut next = at;
+    let mut i = 0;
+    while i < n {
+        next = byte(mark(i), out, next);
+        next = object(rows[i], out, next);
+        i += 1;
+    }
+    next
+}
+
+pub fn objects(rows: [ObjectRow; 8], n: usize, out: &mut [u8]) -> usize {
+    if 8 < n {
+        return word(b"overrun", out, 0);
+    }
+    if !are_objects_untouched(rows, n) {
+        return word(b"overrun", out, 0);
+    }
+    let at = word(b"= ok", out, 0);
+    let at = object_list(rows, n, out, at);
     word(b" #", out, at)
 }
 

@@ -1,7 +1,7 @@
 -- What stands end to end stands where its offsets say: the regions of the metadata blob and their entries, and the payloads of arrays.
 -- Assumes nothing.
 use mathlib.Core.Path.{_≡_, refl, sym, ap, _∙_}
-use mathlib.Core.List.{List, [], _∷_, _++_, append-assoc, flatMap}
+use mathlib.Core.List.{List, [], _∷_, _++_, append-assoc, flatMap, append-nil}
 use Prim.Native.Nat.{ℕ, zero, suc, _+_, _-_, _*_, _≤_, _<_}
 use native.Mathlib.Nat.{zero-add, suc-add}
 use native.Mathlib.Omega.{arith}
@@ -9,7 +9,7 @@ use lib.ListN.{length, getD, take, drop, length-append}
 use lib.Seq.{slice, take-at, drop-at, take-nil, drop-nil, take-take}
 use Rattle.writer.specs.Array.{Array, payload, payloads, payloadSpans}
 use Rattle.writer.specs.FileWrapper.{u32s, nameHeap, classEntries, entry, zeroEntry, entriesFrom, region, regions, offsetsFrom, fileWrapper}
-use Rattle.writer.specs.Spans.{stringAt}
+use Rattle.writer.specs.Spans.{offsetAt, endAt, stringAt}
 use Rattle.writer.specs.declared.file_wrapper.Region.{Region}
 use Rattle.writer.specs.declared.file_wrapper.Region.the-variants.{SavedBlocks, Objects}
 use Rattle.writer.proofs.FileWrapperLaws.{length-u32s, entrySize, length-entries, entries-split, offsets-are, sizes}
@@ -156,3 +156,29 @@ span-of p o h (a ∷ xs) (suc i) l =
 -- the span of array i leads to its own payload
 pub payload-at : (xs : List Array) (i : ℕ) → i < length xs → stringAt (payloads xs) (payloadSpans 0 xs) i ≡ payload (getD xs i none)
 payload-at xs i h = span-of [] 0 refl xs i h
+
+-- where the span of array j begins and ends: payloads stand end to end
+pub span-offset : (o : ℕ) (xs : List Array) (j : ℕ) → j < length xs → offsetAt (payloadSpans o xs) j ≡ o + length (payloads (take j xs))
+unfolding payloads payloadSpans flatMap
+span-offset o [] j h = absurd (omega arith)
+span-offset o (a ∷ xs) zero h = omega arith
+span-offset o (a ∷ xs) (suc j) h =
+    let k : 2 * suc j ≡ suc (suc (2 * j)) = omega arith in
+    rw k (span-offset (o + length (payload a)) xs j (omega arith) ∙ omega (arith, length-append (payload a) (payloads (take j xs))))
+
+pub span-end : (o : ℕ) (xs : List Array) (j : ℕ) → j < length xs → endAt (payloadSpans o xs) j ≡ o + length (payloads (take (suc j) xs))
+unfolding payloads payloadSpans flatMap
+span-end o [] j h = absurd (omega arith)
+span-end o (a ∷ xs) zero h = ap (λ (l : List ℕ). o + length l) (sym (append-nil (payload a)))
+span-end o (a ∷ xs) (suc j) h =
+    let k : 2 * suc j ≡ suc (suc (2 * j)) = omega arith in
+    let m : 2 * suc j + 1 ≡ suc (suc (2 * j + 1)) = omega arith in
+    rw (m, k) (span-end (o + length (payload a)) xs j (omega arith) ∙ omega (arith, length-append (payload a) (payloads (take (suc j) xs))))
+
+pub payloads-within : (xs : List Array) (j : ℕ) → length (payloads (take j xs)) ≤ length (payloads xs)
+unfolding payloads flatMap
+payloads-within [] zero = omega arith
+payloads-within [] (suc j) = omega arith
+payloads-within (a ∷ xs) zero = omega arith
+payloads-within (a ∷ xs) (suc j) =
+    omega (arith, length-append (payload a) (payloads (take j xs)), length-append (payload a) (payloads xs), payloads-within xs j)

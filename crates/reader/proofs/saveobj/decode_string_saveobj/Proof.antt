@@ -1,7 +1,7 @@
 -- `reader::saveobj::decode_string_saveobj` meets its contract.
 -- Assumes nothing.
 use borrow.Author.Needs.{needs}
-use Rattle.reader.proofs.PayloadLaws.{decode-refused, decode-values, decode-short-text, decode-short-spans, decode-fits, payload-written}
+use Rattle.reader.proofs.PayloadLaws.{decode-refused, decode-values, decode-short-text, decode-short-spans, decode-fits, decode-written}
 use Rattle.reader.proofs.saveobj.decode_string_saveobj.Statement.{statement}
 use Rattle.reader.proofs.saveobj.decode_string_saveobj.Tie as tie
 
@@ -19,5 +19,5 @@ decode-string-saveobj-spec =
     (λ c. search needs)
     (λ c. search needs)
     (λ c. search needs)
-    (λ c. search (payload-written, needs))
+    (λ c. search (decode-written, needs))
     (λ c. search (decode-refused, needs)))

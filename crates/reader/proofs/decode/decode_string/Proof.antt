@@ -1,0 +1,27 @@
+-- `reader::decode::decode_string` meets its contract.
+-- Assumes nothing.
+use borrow.Author.Needs.{needs}
+use Rattle.reader.proofs.DecodeStringLaws.{road-there, road-outcomes}
+use Rattle.reader.proofs.decode.decode_string.Statement.{statement}
+use Rattle.reader.proofs.decode.decode_string.Tie as tie
+
+pub decode-string-spec : {M : Type 1} → statement M
+decode-string-spec =
+    tie.close
+    (tie.spec
+    (λ c κs. search needs)
+    (λ c. search needs)
+    (λ c. search (road-outcomes, needs))
+    (λ c. search needs)
+    (λ c κs. search needs)
+    (λ c. search needs)
+    (λ c. search (road-outcomes, needs))
+    (λ c. search needs)
+    (λ c κs. search needs)
+    (λ c. search needs)
+    (λ c κs. search (road-there, needs))
+    (λ c. search needs)
+    (λ c. search needs)
+    (λ c. search needs)
+    (λ c. search (road-outcomes, needs))
+    (λ c. search (road-outcomes, needs)))

@@ -1,0 +1,24 @@
+-- `reader::decode::write_ids` meets its contract.
+-- Assumes nothing.
+use borrow.Author.Needs.{needs}
+use Rattle.reader.proofs.DecodeStringLaws.{ids-values, ids-fit}
+use Rattle.reader.proofs.PayloadLaws.{decode-refused, decode-short-text, decode-short-spans, decode-written}
+use Rattle.reader.proofs.decode.write_ids.Statement.{statement}
+use Rattle.reader.proofs.decode.write_ids.Tie as tie
+
+pub write-ids-spec : {M : Type 1} → statement M
+write-ids-spec =
+    tie.close
+    (tie.spec
+    (λ c κs. search needs)
+    (λ c. search needs)
+    (λ c. search (decode-short-text, needs))
+    (λ c. search (ids-values, needs))
+    (λ c. search (ids-values, needs))
+    (λ c. search (decode-short-spans, ids-values, needs))
+    (λ c κs. search (ids-fit, needs))
+    (λ c. search needs)
+    (λ c. search needs)
+    (λ c. search needs)
+    (λ c. search (decode-written, needs))
+    (λ c. search (decode-refused, needs)))
