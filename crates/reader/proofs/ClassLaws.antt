@@ -14,7 +14,7 @@ use Rattle.text.specs.Replies.{lossyLength}
 use Rattle.text.specs.Result.{ok}
 use Rattle.text.specs.Utf8.{lossy, lossySequences}
 use Rattle.text.specs.declared.error.MatError.{MatError}
-use Rattle.text.specs.declared.error.MatError.the-variants.{ObjectIdOutOfRange, ClassIdOutOfRange, NameIndexOutOfRange, OutputTooShort}
+use Rattle.text.specs.declared.error.MatError.the-variants.{ClassIdOutOfRange, NameIndexOutOfRange, OutputTooShort}
 use Rattle.text.specs.declared.utf8.LossyLength.{LossyLength}
 use Rattle.text.specs.declared.utf8.LossyLength.the-variants as measure
 use Rattle.text.proofs.BufferLaws.{put-front, put-more, length-put}
@@ -25,7 +25,9 @@ use Rattle.text.proofs.Utf8Laws.{lossy-le}
 use Rattle.reader.specs.Names.{pieceBytes, HasName, IsName, InBlob, IsLength, BothInBlob}
 use Rattle.reader.specs.Opening.{opened, Opens}
 use Rattle.reader.specs.Queries.{shown, classEntry, shownClass, entryText, classOf, classText, objectRecord, checkObject, objectClassText}
-use Rattle.reader.specs.Replies.{parseReplyOf, WritesText}
+use Rattle.reader.specs.Replies.{parseReplyOf, checkedOf, WritesText}
+use Rattle.reader.specs.declared.file_wrapper.Checked.{Checked}
+use Rattle.reader.specs.declared.file_wrapper.Checked.the-variants as checked
 use Rattle.reader.specs.declared.file_wrapper.FileWrapper.{FileWrapper}
 use Rattle.reader.specs.declared.file_wrapper.ParseReply.{ParseReply}
 use Rattle.reader.specs.declared.file_wrapper.ParseReply.the-variants as parse
@@ -35,6 +37,7 @@ use Rattle.reader.specs.declared.names.Piece.{Piece}
 use Rattle.reader.specs.declared.records.ClassEntry.{ClassEntry}
 use Rattle.reader.specs.declared.records.ObjectRecord.{ObjectRecord}
 use Rattle.reader.proofs.NameLaws.{parsed, part-slice, refused}
+use Rattle.reader.proofs.ObjectLaws.{id-below}
 
 -- ---- a piece: its length, and writing it
 
@@ -182,25 +185,21 @@ module _ (b : List ℕ) {x : ParseReply} (e : parseReplyOf x ≡ opened b) where
     unfolding objectClassText
     object-refused text {f} g = refused (objectClassText b id) text f (rw (reply-is parseReplyOf e g))
 
-    module _ {w : FileWrapper} (g : x ≡ parse.Parsed w) where
-      pub object-zero : (text : List ℕ) → id ≡ 0 → WritesText (objectClassText b id) text (name.Error (ObjectIdOutOfRange 0)) text
-      unfolding objectClassText checkObject
-      object-zero text z = refused (objectClassText b id) text (ObjectIdOutOfRange 0) (rw (z, reply-is parseReplyOf e g))
+    module _ {w : FileWrapper} (g : x ≡ parse.Parsed w) {k : Checked} (d : checkedOf k ≡ checkObject w id) where
+      pub object-failed : (text : List ℕ) {f : MatError} → k ≡ checked.Failed f → WritesText (objectClassText b id) text (name.Error f) text
+      unfolding objectClassText
+      object-failed text {f} h = refused (objectClassText b id) text f (rw (reply-is parseReplyOf e g, reply-is checkedOf d h))
 
-      module _ (some : id ≡ 0 → ⊥) where
-        pub object-outside : (text : List ℕ) → w .records ≤ id → WritesText (objectClassText b id) text (name.Error (ObjectIdOutOfRange id)) text
-        unfolding objectClassText checkObject
-        object-outside text h = refused (objectClassText b id) text (ObjectIdOutOfRange id) (rw (reply-is parseReplyOf e g) (simp (le-leb 1 id (omega arith), le-ltb id (w .records) h)))
+      module _ (h : k ≡ checked.Passed) where
+        pub object-inside : w .offsets .o2 + 24 * id + 24 ≤ length b
+        object-inside = let o = parsed b e g in omega (arith, o, o .object-records, id-below w id d h)
 
-        pub object-inside : id < w .records → w .offsets .o2 + 24 * id + 24 ≤ length b
-        object-inside h = let o = parsed b e g in omega (arith, o, o .object-records)
+        pub object-fits : w .offsets .o2 + 24 * id < 2 ^ 64
+        object-fits = omega (arith, object-inside, parsed b e g .most)
 
-        pub object-fits : id < w .records → w .offsets .o2 + 24 * id < 2 ^ 64
-        object-fits h = omega (arith, object-inside h, parsed b e g .most)
-
-        pub object-written : id < w .records → {r : ObjectRecord} → r ≡ objectRecord b w id → {text text' : List ℕ} {y : NameReply}
+        pub object-written : {r : ObjectRecord} → r ≡ objectRecord b w id → {text text' : List ℕ} {y : NameReply}
             → WritesText (classOf b w (r .«class_id»)) text y text' → WritesText (objectClassText b id) text y text'
-        unfolding objectClassText checkObject
-        object-written h {r} k {text} {text'} {y} t =
-            let m : objectClassText b id ≡ classOf b w (r .«class_id») = rw (reply-is parseReplyOf e g) (rw k (simp (le-leb 1 id (omega arith), lt-ltb id (w .records) h))) in
+        unfolding objectClassText
+        object-written {r} q {text} {text'} {y} t =
+            let m : objectClassText b id ≡ classOf b w (r .«class_id») = rw (reply-is parseReplyOf e g, reply-is checkedOf d h) (rw q) in
             rw m t

@@ -226,40 +226,40 @@ module _ (directory kinds words metadata : List ℕ) where
 -- ---- the outcomes of `decode_string`
 
 module _ (blob directory kinds words metadata text spans : List ℕ) where
-  abbrev road : Strings
-  road = metadataStrings blob directory kinds words metadata
+  abbrev named : Strings
+  named = metadataStrings blob directory kinds words metadata
 
-  refused : {f : MatError} → road ≡ error (failureOf f)
-      → DecodesStrings road text spans (reply.Error f) text spans
-  refused {f} e = decode-refused road text spans (reply.Error f) (ap (mapResult countsOf) (sym e)) refl
+  refused : {f : MatError} → named ≡ error (failureOf f)
+      → DecodesStrings named text spans (reply.Error f) text spans
+  refused {f} e = decode-refused named text spans (reply.Error f) (ap (mapResult countsOf) (sym e)) refl
 
   module _ {x : ParseReply} (p : parseReplyOf x ≡ opened blob) where
-    pub road-blob : {f : MatError} → x ≡ parse.Error f → DecodesStrings road text spans (reply.Error f) text spans
+    pub named-blob : {f : MatError} → x ≡ parse.Error f → DecodesStrings named text spans (reply.Error f) text spans
     unfolding metadataStrings
-    road-blob g = refused (rw (reply-is parseReplyOf p g))
+    named-blob g = refused (rw (reply-is parseReplyOf p g))
 
     module _ {w : FileWrapper} (g : x ≡ parse.Parsed w) {y : Checked} (d : checkedOf y ≡ checkDirectory directory kinds (length words)) where
-      pub road-directory : {f : MatError} → y ≡ checked.Failed f → DecodesStrings road text spans (reply.Error f) text spans
+      pub named-directory : {f : MatError} → y ≡ checked.Failed f → DecodesStrings named text spans (reply.Error f) text spans
       unfolding metadataStrings
-      road-directory k = refused (rw (reply-is parseReplyOf p g) (rw (reply-is checkedOf d k)))
+      named-directory k = refused (rw (reply-is parseReplyOf p g) (rw (reply-is checkedOf d k)))
 
       module _ (k : y ≡ checked.Passed) {z : OpaqueReply} (o : opaqueReplyOf z ≡ opaqueMetadata metadata) where
-        pub road-metadata : {f : MatError} → z ≡ opaque.Error f → DecodesStrings road text spans (reply.Error f) text spans
+        pub named-metadata : {f : MatError} → z ≡ opaque.Error f → DecodesStrings named text spans (reply.Error f) text spans
         unfolding metadataStrings
-        road-metadata q = refused (rw (reply-is parseReplyOf p g) (rw (reply-is checkedOf d k) (rw (reply-is opaqueReplyOf o q))))
+        named-metadata q = refused (rw (reply-is parseReplyOf p g) (rw (reply-is checkedOf d k) (rw (reply-is opaqueReplyOf o q))))
 
         module _ {m : OpaqueMetadata} (q : z ≡ opaque.Parsed m) where
-          pub road-there : IdsThere directory kinds words metadata (m .«first_id») (m .ids)
-          road-there =
+          pub named-there : IdsThere directory kinds words metadata (m .«first_id») (m .ids)
+          named-there =
               let t = opaque-passed metadata (reply-is opaqueReplyOf o q) in
               record { cells = record { passed = reply-is checkedOf d k }; there = t .there; few = t .few }
 
-          road-is : road ≡ idsStrings directory kinds words metadata (m .«first_id») (m .ids)
+          named-is : named ≡ idsStrings directory kinds words metadata (m .«first_id») (m .ids)
           unfolding metadataStrings
-          road-is = rw (reply-is parseReplyOf p g) (rw (reply-is checkedOf d k) (rw (reply-is opaqueReplyOf o q)))
+          named-is = rw (reply-is parseReplyOf p g) (rw (reply-is checkedOf d k) (rw (reply-is opaqueReplyOf o q)))
 
-          pub road-ids : {r : StringsReply} {text' spans' : List ℕ} → DecodesStrings (idsStrings directory kinds words metadata (m .«first_id») (m .ids)) text spans r text' spans'
-              → DecodesStrings road text spans r text' spans'
-          road-ids h = rw road-is h
+          pub named-ids : {r : StringsReply} {text' spans' : List ℕ} → DecodesStrings (idsStrings directory kinds words metadata (m .«first_id») (m .ids)) text spans r text' spans'
+              → DecodesStrings named text spans r text' spans'
+          named-ids h = rw named-is h
 
-pub ruleset road-outcomes = (road-blob, road-directory, road-metadata, road-ids)
+pub ruleset named-outcomes = (named-blob, named-directory, named-metadata, named-ids)

@@ -1,23 +1,27 @@
--- The object of one id.
+-- Check 8, and the object of one id.
 -- Assumes nothing.
 use mathlib.Core.Path.{_≡_, refl, sym, ap, _∙_, subst}
 use mathlib.Core.Bool.{false, cond}
 use mathlib.Core.List.{List}
 use Prim.Native.Nat.{ℕ, _+_, _*_, _≤_, _<_}
 use native.Mathlib.Omega.{arith}
-use borrow.Author.Tests.{eq-eqb, ne-eqb, lt-ltb, le-ltb}
-use lib.Dec.{eqb, ltb}
+use borrow.Author.Tests.{eq-eqb, ne-eqb, le-leb, lt-ltb, le-ltb, ltb-true}
+use lib.Dec.{leb, eqb, ltb}
 use lib.ListN.{length}
-use Rattle.text.specs.Result.{ok}
-use Rattle.text.specs.declared.error.MatError.the-variants.{PropertyBlockIdOutOfRange}
+use Rattle.text.specs.Result.{ok, check}
+use Rattle.text.specs.declared.error.MatError.the-variants.{ObjectIdOutOfRange, PropertyBlockIdOutOfRange}
+use Rattle.text.proofs.ResultLaws.{reply-is, check-passed, check-is}
 use Rattle.text.proofs.TestLaws.{either}
 use Rattle.reader.specs.Blocks.{blockEnd, blockAt, HasBlock, IsCursor, cursorAt}
 use Rattle.reader.specs.Objects.{regionOf, blockIdOf, regionStart, regionBlocks, checkBlock, blockStart, propertyCount, recordRow}
 use Rattle.reader.specs.ObjectStages.{blockOf, rowFrom, cursorOf, withCursor, firstBlocks, AreCursors, ToBlock, ToObject, ReadsObject}
 use Rattle.reader.specs.Opening.{Opens}
-use Rattle.reader.specs.Queries.{objectRecord}
+use Rattle.reader.specs.Queries.{checkObject, objectRecord}
+use Rattle.reader.specs.Replies.{checkedOf}
 use Rattle.reader.specs.Wire.{u32At}
 use Rattle.reader.specs.declared.blocks.Cursor.{Cursor}
+use Rattle.reader.specs.declared.file_wrapper.Checked.{Checked}
+use Rattle.reader.specs.declared.file_wrapper.Checked.the-variants as checked
 use Rattle.reader.specs.declared.file_wrapper.FileWrapper.{FileWrapper}
 use Rattle.reader.specs.declared.objects.BlockId.{BlockId}
 use Rattle.reader.specs.declared.objects.Cursors.{Cursors}
@@ -26,6 +30,32 @@ use Rattle.reader.specs.declared.objects.ObjectReply.the-variants as obj
 use Rattle.reader.specs.declared.objects.ObjectRow.{ObjectRow}
 use Rattle.reader.specs.declared.records.ObjectRecord.{ObjectRecord}
 use Rattle.reader.proofs.BlockLaws.{blocks-inside}
+
+-- ---- check 8
+
+module _ (w : FileWrapper) (id : ℕ) where
+  pub id-zero : id ≡ 0 → checkedOf (checked.Failed (ObjectIdOutOfRange 0)) ≡ checkObject w id
+  unfolding checkObject
+  id-zero z = rw z
+
+  module _ (some : id ≡ 0 → ⊥) where
+    pub id-outside : w .records ≤ id → checkedOf (checked.Failed (ObjectIdOutOfRange id)) ≡ checkObject w id
+    unfolding checkObject
+    id-outside h = simp (le-leb 1 id (omega arith), le-ltb id (w .records) h)
+
+    pub id-inside : id < w .records → checkedOf checked.Passed ≡ checkObject w id
+    unfolding checkObject
+    id-inside h = simp (le-leb 1 id (omega arith), lt-ltb id (w .records) h)
+
+  -- an id that passed has a record
+  pub id-below : {x : Checked} → checkedOf x ≡ checkObject w id → x ≡ checked.Passed → id < w .records
+  unfolding checkObject
+  id-below e g =
+      let p = check-passed 8 (leb 1 id) id (check 8 (ltb id (w .records)) id) (reply-is checkedOf e g) in
+      ltb-true id (w .records) (check-is 8 (ltb id (w .records)) id (p .1))
+
+  pub id-inside-blob : {b : List ℕ} → Opens b w → {x : Checked} → checkedOf x ≡ checkObject w id → x ≡ checked.Passed → w .offsets .o2 + 24 * id + 24 ≤ length b
+  id-inside-blob o e g = omega (arith, o, o .object-records, id-below e g)
 
 -- ---- what a test with 0 chooses
 

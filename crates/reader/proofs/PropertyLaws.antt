@@ -6,12 +6,12 @@ use mathlib.Core.List.{List, [], _∷_, _++_, map}
 use Prim.Native.Nat.{ℕ, zero, suc, _+_, _-_, _*_, _^_, _≤_, _<_, min}
 use native.Mathlib.Numerals.{add-one}
 use native.Mathlib.Omega.{arith}
-use borrow.Author.Tests.{le-leb, lt-leb, lt-ltb, le-ltb, eq-eqb, ne-eqb}
+use borrow.Author.Tests.{le-leb, lt-leb, eq-eqb, ne-eqb}
 use lib.Dec.{leb}
 use lib.ListN.{length, drop, set, length-append, length-drop}
 use Rattle.text.specs.Result.{ok}
 use Rattle.text.specs.declared.error.MatError.{MatError}
-use Rattle.text.specs.declared.error.MatError.the-variants.{ObjectIdOutOfRange, NameIndexOutOfRange, UnknownFieldType, OutputTooShort}
+use Rattle.text.specs.declared.error.MatError.the-variants.{NameIndexOutOfRange, UnknownFieldType, OutputTooShort}
 use Rattle.text.proofs.ResultLaws.{reply-is, seq-passed, seq-failed}
 use Rattle.reader.specs.Objects.{checkBlock, objectRow, triplesFrom, triplesOf, checkTriple, checkTriples, recordRow, recordTriples, objectTriples, rowOf}
 use Rattle.reader.specs.ObjectStages.{firstBlocks, ToObject, objectReplyOf, IsBlock, Stands, ReadsObject, TriplesIn, triplesReplyOf, PassedTriples, Triples, RecordTriples, ReadsTriples}
@@ -155,19 +155,14 @@ module _ (b : List ℕ) (id : ℕ) {x : ParseReply} (e : parseReplyOf x ≡ open
   unfolding objectTriples
   triples-refused g = record { reply = rw (reply-is parseReplyOf e g); are = tt }
 
-  module _ {w : FileWrapper} (g : x ≡ parse.Parsed w) where
-    pub triples-zero : id ≡ 0 → ReadsTriples b id (triples.Error (ObjectIdOutOfRange 0))
-    unfolding objectTriples checkObject
-    triples-zero z = record { reply = rw (z, reply-is parseReplyOf e g); are = tt }
+  module _ {w : FileWrapper} (g : x ≡ parse.Parsed w) {k : Checked} (d : checkedOf k ≡ checkObject w id) where
+    pub triples-failed : {f : MatError} → k ≡ checked.Failed f → ReadsTriples b id (triples.Error f)
+    unfolding objectTriples
+    triples-failed h = record { reply = rw (reply-is parseReplyOf e g, reply-is checkedOf d h); are = tt }
 
-    module _ (some : id ≡ 0 → ⊥) where
-      pub triples-outside : w .records ≤ id → ReadsTriples b id (triples.Error (ObjectIdOutOfRange id))
-      unfolding objectTriples checkObject
-      triples-outside h = record { reply = rw (reply-is parseReplyOf e g) (simp (le-leb 1 id (omega arith), le-ltb id (w .records) h)); are = tt }
-
-      pub triples-read : id < w .records → {y : TriplesReply} → RecordTriples b w (objectRecord b w id) y → ReadsTriples b id y
-      unfolding objectTriples checkObject
-      triples-read h t = record { reply = t .reply ∙ rw (reply-is parseReplyOf e g) (simp (le-leb 1 id (omega arith), lt-ltb id (w .records) h)); are = t .are }
+    pub triples-read : k ≡ checked.Passed → {y : TriplesReply} → RecordTriples b w (objectRecord b w id) y → ReadsTriples b id y
+    unfolding objectTriples
+    triples-read h t = record { reply = t .reply ∙ rw (reply-is parseReplyOf e g, reply-is checkedOf d h); are = t .are }
 
 -- ---- rows
 

@@ -5,13 +5,13 @@ use mathlib.Core.List.{List, [], _∷_, flatMap}
 use mathlib.Core.Option.{Option, some}
 use Prim.Native.Nat.{ℕ, zero, suc, _+_, _-_, _*_, _^_, _≤_, _<_}
 use native.Mathlib.Omega.{arith}
-use borrow.Author.Tests.{le-leb, lt-ltb, le-ltb, eq-eqb, ne-eqb}
+use borrow.Author.Tests.{le-leb, eq-eqb, ne-eqb}
 use lib.Dec.{leb}
 use lib.ListN.{length, getD, take, drop, set}
 use Rattle.text.specs.Errors.{failureOf}
 use Rattle.text.specs.Result.{Result, ok, error, mapResult, overwritten, _>>_, _>>=_}
 use Rattle.text.specs.declared.error.MatError.{MatError}
-use Rattle.text.specs.declared.error.MatError.the-variants.{ObjectIdOutOfRange, NotStringObject, OutputTooShort}
+use Rattle.text.specs.declared.error.MatError.the-variants.{NotStringObject, OutputTooShort}
 use Rattle.text.proofs.BufferLaws.{put-front}
 use Rattle.text.proofs.ByteLaws.{stores}
 use Rattle.text.proofs.ResultLaws.{reply-is}
@@ -120,26 +120,21 @@ module _ {b : List ℕ} {w : FileWrapper} {r : ObjectRecord} (o : Opens b w) {x 
 
 -- ---- the property of a string object
 
-module _ (b : List ℕ) (w : FileWrapper) (id : ℕ) where
-  pub property-zero : id ≡ 0 → chosenReplyOf (chosen.Error (ObjectIdOutOfRange 0)) ≡ stringProperty b w id
-  unfolding stringProperty checkObject
-  property-zero z = rw z
+module _ (b : List ℕ) (w : FileWrapper) (id : ℕ) {k : Checked} (d : checkedOf k ≡ checkObject w id) where
+  pub property-failed : {f : MatError} → k ≡ checked.Failed f → chosenReplyOf (chosen.Error f) ≡ stringProperty b w id
+  unfolding stringProperty
+  property-failed h = rw (reply-is checkedOf d h)
 
-  module _ (some : id ≡ 0 → ⊥) where
-    pub property-outside : w .records ≤ id → chosenReplyOf (chosen.Error (ObjectIdOutOfRange id)) ≡ stringProperty b w id
-    unfolding stringProperty checkObject
-    property-outside h = simp (le-leb 1 id (omega arith), le-ltb id (w .records) h)
+  module _ (h : k ≡ checked.Passed) {o : ObjectRecord} (is : o ≡ objectRecord b w id) {x : Checked} (e : checkedOf x ≡ stringClass b w (o .«class_id»)) where
+    class-is : {y : Checked} → x ≡ y → (checkedOf y >> chosenProperty b w (objectRecord b w id)) ≡ stringProperty b w id
+    unfolding stringProperty
+    class-is g = rw (reply-is checkedOf d h) (rw (sym (rw is at (reply-is checkedOf e g))))
 
-    module _ (h : id < w .records) {o : ObjectRecord} (is : o ≡ objectRecord b w id) {x : Checked} (e : checkedOf x ≡ stringClass b w (o .«class_id»)) where
-      class-is : {y : Checked} → x ≡ y → (checkedOf y >> chosenProperty b w (objectRecord b w id)) ≡ stringProperty b w id
-      unfolding stringProperty checkObject
-      class-is g = simp (le-leb 1 id (omega arith), lt-ltb id (w .records) h) (rw (sym (rw is at (reply-is checkedOf e g))))
+    pub property-class : {f : MatError} → x ≡ checked.Failed f → chosenReplyOf (chosen.Error f) ≡ stringProperty b w id
+    property-class g = class-is g
 
-      pub property-class : {f : MatError} → x ≡ checked.Failed f → chosenReplyOf (chosen.Error f) ≡ stringProperty b w id
-      property-class g = class-is g
-
-      pub property-chosen : x ≡ checked.Passed → {m : Result (Option Triple)} → m ≡ chosenProperty b w (objectRecord b w id) → m ≡ stringProperty b w id
-      property-chosen g c = c ∙ class-is g
+    pub property-chosen : x ≡ checked.Passed → {m : Result (Option Triple)} → m ≡ chosenProperty b w (objectRecord b w id) → m ≡ stringProperty b w id
+    property-chosen g c = c ∙ class-is g
 
 -- ---- the strings of a property's cell
 

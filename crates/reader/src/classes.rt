@@ -6,6 +6,7 @@ use crate::names::NameReply;
 use crate::names::Piece;
 use crate::names::name_piece;
 use crate::names::write_piece;
+use crate::objects::check_object;
 use crate::records::ClassEntry;
 use crate::records::ObjectRecord;
 use text::error::MatError;
@@ -148,11 +149,8 @@ pub fn object_class_name(blob: &[u8], object_id: u32, text: &mut [u8]) -> NameRe
 {
     match FileWrapper::parse(blob) {
         ParseReply::Parsed(w) => {
-            if object_id == 0 {
-                return NameReply::Error(MatError::ObjectIdOutOfRange(0));
-            }
-            if w.records <= object_id as usize {
-                return NameReply::Error(MatError::ObjectIdOutOfRange(object_id as u64));
+            if let Checked::Failed(e) = check_object(w, object_id) {
+                return NameReply::Error(e);
             }
             let record = ObjectRecord::read(
                 blob,

@@ -13,7 +13,7 @@ ghost use Prim.Native.Nat.{_-_};
 ghost use Rattle.reader.specs.Blocks.{cursorAt};
 ghost use Rattle.reader.specs.Objects.{regionStart, regionBlocks};
 ghost use Rattle.reader.specs.Opening.{Opens};
-ghost use Rattle.reader.specs.Queries.{objectRecord};
+ghost use Rattle.reader.specs.Queries.{checkObject, objectRecord};
 ghost use Rattle.reader.specs.ObjectStages.{blockOf, cursorOf, withCursor, firstBlocks, rowFrom, ToBlock, ToObject, ReadsObject, checkObjects, noRow, blankRows, objectList, countOf, lastRow, listingReplyOf, Lists, ToNext, NextObject};
 ghost use Rattle.reader.specs.Replies.{checkedOf, objectsReplyOf, WritesObjects};
 
@@ -23,6 +23,19 @@ pub struct ObjectRow {
     pub region: u32,
     pub block_id: u32,
     pub property_count: u32,
+}
+
+// Check 8.
+pub(crate) fn check_object(w: FileWrapper, object_id: u32) -> Checked
+    ensures { λ r. ⌜ checkedOf r ≡ checkObject w «object_id» ⌝ }
+{
+    if object_id == 0 {
+        return Checked::Failed(MatError::ObjectIdOutOfRange(0));
+    }
+    if w.records <= object_id as usize {
+        return Checked::Failed(MatError::ObjectIdOutOfRange(object_id as u64));
+    }
+    Checked::Passed
 }
 
 // The property block of an object: its region, and its id there.

@@ -3,6 +3,7 @@ use crate::file_wrapper::Checked;
 use crate::file_wrapper::FileWrapper;
 use crate::file_wrapper::ParseReply;
 use crate::objects::ObjectReply;
+use crate::objects::check_object;
 use crate::objects::first_blocks;
 use crate::objects::read_object;
 use crate::records::Triple;
@@ -97,11 +98,8 @@ pub(crate) fn object_triples(blob: &[u8], object_id: u32) -> TriplesReply
 {
     match FileWrapper::parse(blob) {
         ParseReply::Parsed(w) => {
-            if object_id == 0 {
-                return TriplesReply::Error(MatError::ObjectIdOutOfRange(0));
-            }
-            if w.records <= object_id as usize {
-                return TriplesReply::Error(MatError::ObjectIdOutOfRange(object_id as u64));
+            if let Checked::Failed(e) = check_object(w, object_id) {
+                return TriplesReply::Error(e);
             }
             record_triples(blob, w, object_id)
         }

@@ -7,6 +7,7 @@ use crate::file_wrapper::Checked;
 use crate::file_wrapper::FileWrapper;
 use crate::file_wrapper::ParseReply;
 use crate::find::first_named;
+use crate::objects::check_object;
 use crate::properties::TriplesReply;
 use crate::properties::record_triples;
 use crate::records::ObjectRecord;
@@ -58,11 +59,8 @@ fn string_property(blob: &[u8], w: FileWrapper, object_id: u32) -> ChosenReply
     requires { ⌜ Opens (now blob) w ⌝ }
     ensures { λ r. ⌜ chosenReplyOf r ≡ stringProperty (now (blob .entry)) w «object_id» ⌝ }
 {
-    if object_id == 0 {
-        return ChosenReply::Error(MatError::ObjectIdOutOfRange(0));
-    }
-    if w.records <= object_id as usize {
-        return ChosenReply::Error(MatError::ObjectIdOutOfRange(object_id as u64));
+    if let Checked::Failed(e) = check_object(w, object_id) {
+        return ChosenReply::Error(e);
     }
     let at = w.offsets.o2 + ObjectRecord::SIZE * object_id as usize;
     let class_id = ObjectRecord::read(blob, at).class_id;

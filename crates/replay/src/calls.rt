@@ -335,34 +335,34 @@ fn strings_answer(reply: StringsReply, text: &[u8], spans: &[u64], answer: &mut 
     }
 }
 
-// The number of metadata words of the first road, or the id of the second.
-fn road_target(field: &[u8], is_first: bool, metadata: &mut [u32]) -> Number {
-    if is_first {
+// The number of metadata words where the strings come by metadata, else the object's id.
+fn metadata_or_id(field: &[u8], by_metadata: bool, metadata: &mut [u32]) -> Number {
+    if by_metadata {
         return fields::words32(field, metadata);
     }
     fields::decimal(field)
 }
 
-// The strings that a road gives.
-fn decode_road(
+// The strings by opaque metadata, or through an object's property.
+fn decode_one(
     blob: &[u8],
     directory: &[u64],
     kinds: &[u8],
     words: &[u64],
     metadata: &[u32],
-    is_first: bool,
+    by_metadata: bool,
     id: u32,
     text: &mut [u8],
     spans: &mut [u64],
 ) -> StringsReply {
-    if is_first {
+    if by_metadata {
         return decode_string(blob, directory, kinds, words, metadata, text, spans);
     }
     decode_string_object(blob, directory, kinds, words, id, text, spans)
 }
 
-// Both roads: BLOB DIRECTORY KINDS WORDS METADATA-or-id text-length spans-length
-fn road(line: &[u8], is_first: bool) -> Verdict {
+// BLOB DIRECTORY KINDS WORDS METADATA-or-id text-length spans-length
+fn decode(line: &[u8], by_metadata: bool) -> Verdict {
     let blob: &mut [u8] = &mut io::buffer();
     let directory: &mut [u64] = &mut fields::words_buffer();
     let kinds: &mut [u8] = &mut io::buffer();
@@ -383,7 +383,7 @@ fn road(line: &[u8], is_first: bool) -> Verdict {
     let Number::Value(word_count) = fields::words(fields::field(line, 4), words) else {
         return Verdict::Unreadable;
     };
-    let Number::Value(target) = road_target(fields::field(line, 5), is_first, metadata) else {
+    let Number::Value(target) = metadata_or_id(fields::field(line, 5), by_metadata, metadata) else {
         return Verdict::Unreadable;
     };
     let Number::Value(bytes) = fields::decimal(fields::field(line, 6)) else {
@@ -401,13 +401,13 @@ fn road(line: &[u8], is_first: bool) -> Verdict {
     if 0xFFFF_FFFF < target {
         return Verdict::Unreadable;
     }
-    let reply = decode_road(
+    let reply = decode_one(
         fields::part(blob, 0, blob_bytes),
         fields::first_words(directory, entries),
         fields::part(kinds, 0, kind_bytes),
         fields::first_words(words, word_count),
         fields::first_words32(metadata, target),
-        is_first,
+        by_metadata,
         target as u32,
         &mut text[0..bytes],
         &mut spans[0..values],
@@ -416,14 +416,14 @@ fn road(line: &[u8], is_first: bool) -> Verdict {
     compare(line, 8, answer, n)
 }
 
-// road1, through opaque metadata
+// road1: by opaque metadata
 pub fn road1(line: &[u8]) -> Verdict {
-    road(line, true)
+    decode(line, true)
 }
 
-// road2, through the object's property
+// road2: through the object's property
 pub fn road2(line: &[u8]) -> Verdict {
-    road(line, false)
+    decode(line, false)
 }
 
 // objects BLOB rows-length, where the rows are enough: the listing by value has eight

@@ -1,7 +1,7 @@
 -- `reader::decode::decode_string` meets its contract.
 -- Assumes nothing.
 use borrow.Author.Needs.{needs}
-use Rattle.reader.proofs.DecodeStringLaws.{road-there, road-outcomes}
+use Rattle.reader.proofs.DecodeStringLaws.{named-there, named-outcomes}
 use Rattle.reader.proofs.decode.decode_string.Statement.{statement}
 use Rattle.reader.proofs.decode.decode_string.Tie as tie
 
@@ -11,17 +11,17 @@ decode-string-spec =
     (tie.spec
     (λ c κs. search needs)
     (λ c. search needs)
-    (λ c. search (road-outcomes, needs))
+    (λ c. search (named-outcomes, needs))
     (λ c. search needs)
     (λ c κs. search needs)
     (λ c. search needs)
-    (λ c. search (road-outcomes, needs))
+    (λ c. search (named-outcomes, needs))
     (λ c. search needs)
     (λ c κs. search needs)
     (λ c. search needs)
-    (λ c κs. search (road-there, needs))
+    (λ c κs. search (named-there, needs))
     (λ c. search needs)
     (λ c. search needs)
     (λ c. search needs)
-    (λ c. search (road-outcomes, needs))
-    (λ c. search (road-outcomes, needs)))
+    (λ c. search (named-outcomes, needs))
+    (λ c. search (named-outcomes, needs)))

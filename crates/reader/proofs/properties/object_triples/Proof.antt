@@ -1,7 +1,8 @@
 -- `reader::properties::object_triples` meets its contract.
 -- Assumes nothing.
 use Rattle.reader.proofs.NameLaws.{parsed}
-use Rattle.reader.proofs.PropertyLaws.{triples-refused, triples-zero, triples-outside, triples-read}
+use Rattle.reader.proofs.ObjectLaws.{id-below}
+use Rattle.reader.proofs.PropertyLaws.{triples-refused, triples-failed, triples-read}
 use borrow.Author.Needs.{needs}
 use Rattle.reader.proofs.properties.object_triples.Statement.{statement}
 use Rattle.reader.proofs.properties.object_triples.Tie as tie
@@ -9,4 +10,4 @@ use Rattle.reader.proofs.properties.object_triples.Tie as tie
 pub object-triples-spec : {M : Type 1} → statement M
 object-triples-spec =
     tie.close
-    (tie.spec (λ c κs. search needs) (λ c. search needs) (λ c. search (triples-zero, needs)) (λ c. search (triples-outside, needs)) (λ c κs. search (parsed, needs)) (λ c. search needs) (λ c. search (triples-read, needs)) (λ c. search (triples-refused, needs)))
+    (tie.spec (λ c κs. search needs) (λ c. search needs) (λ c κs. search needs) (λ c. search needs) (λ c. search (triples-failed, needs)) (λ c. search needs) (λ c κs. search (parsed, id-below, needs)) (λ c. search needs) (λ c. search (triples-read, needs)) (λ c. search (triples-refused, needs)))
