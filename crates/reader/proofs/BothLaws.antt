@@ -6,10 +6,10 @@ use mathlib.Core.List.{List, [], _++_, append-assoc, append-nil}
 use native.Mathlib.Omega.{arith}
 use lib.ListN.{length, length-append}
 use Rattle.text.specs.Buffer.{put}
-use Rattle.text.specs.Result.{Result, ok, error, mapResult, _>>=_}
+use Rattle.text.specs.Result.{Result, ok, error, mapResult, _>>=_, valuesOf}
 use Rattle.text.proofs.BufferLaws.{put-more, length-put}
 use Rattle.reader.specs.Saveobj.{joined, spansFrom}
-use Rattle.reader.specs.SaveobjStages.{Counts, countsOf, theStrings, FitsAt, WritesAt}
+use Rattle.reader.specs.SaveobjStages.{Counts, countsOf, FitsAt, WritesAt}
 use Rattle.reader.specs.declared.saveobj.Position.{Position}
 use Rattle.reader.proofs.PayloadLaws.{counts-are}
 use Rattle.reader.proofs.StringLaws.{joined-append, length-joined, spans-append, length-spans}
@@ -38,7 +38,7 @@ both-assoc (ok a) (ok b) (error f) = refl
 both-assoc (ok a) (error f) z = refl
 both-assoc (error f) y z = refl
 
-pub both-passed : (x y : Strings) {ss : List (List ℕ)} → both x y ≡ ok ss → (x ≡ ok (theStrings x)) × (y ≡ ok (theStrings y)) × (ss ≡ theStrings x ++ theStrings y)
+pub both-passed : (x y : Strings) {ss : List (List ℕ)} → both x y ≡ ok ss → (x ≡ ok (valuesOf x)) × (y ≡ ok (valuesOf y)) × (ss ≡ valuesOf x ++ valuesOf y)
 unfolding both
 both-passed (ok a) (ok b) e = (refl, refl, cc)
 both-passed (ok a) (error f) {ss} e =
@@ -55,9 +55,9 @@ unfolding both
 both-counts x y {b} {n} {c} {m} e f =
     let p = counts-are x e in
     let q = counts-are y f in
-    let bytes : length (joined (theStrings x ++ theStrings y)) ≡ b + c =
-    omega (arith, p .1, q .1, length-joined (theStrings x) (theStrings y)) in
-    let strings : length (theStrings x ++ theStrings y) ≡ n + m = omega (arith, p .2, q .2, length-append (theStrings x) (theStrings y)) in
+    let bytes : length (joined (valuesOf x ++ valuesOf y)) ≡ b + c =
+    omega (arith, p .1, q .1, length-joined (valuesOf x) (valuesOf y)) in
+    let strings : length (valuesOf x ++ valuesOf y) ≡ n + m = omega (arith, p .2, q .2, length-append (valuesOf x) (valuesOf y)) in
     rw (p .0, q .0) (rw (bytes, strings))
 
 -- ---- what fits at a position, and what is written there
@@ -65,24 +65,24 @@ both-counts x y {b} {n} {c} {m} e f =
 -- the buffers keep their lengths
 module _ {x : Strings} {at : Position} {t s : List ℕ} (f : FitsAt x (length t) (length s) at) {next : Position} {t' s' : List ℕ} (w : WritesAt x at t s next t' s') where
   pub same-text : length t' ≡ length t
-  same-text = ap length (w .writes .text-after) ∙ length-put t (at .byte) (joined (theStrings x)) (f .text)
+  same-text = ap length (w .writes .text-after) ∙ length-put t (at .byte) (joined (valuesOf x)) (f .text)
 
   pub same-spans : length s' ≡ length s
   same-spans =
-      let l = length-spans (at .byte) (theStrings x) in
-      ap length (w .writes .spans-after) ∙ length-put s (2 * at .string) (spansFrom (at .byte) (theStrings x)) (omega (arith, f .spans))
+      let l = length-spans (at .byte) (valuesOf x) in
+      ap length (w .writes .spans-after) ∙ length-put s (2 * at .string) (spansFrom (at .byte) (valuesOf x)) (omega (arith, f .spans))
 
 module _ (x y : Strings) where
   module _ {textRoom spanRoom : ℕ} {at : Position} (f : FitsAt (both x y) textRoom spanRoom at) where
-    parts : (x ≡ ok (theStrings x)) × (y ≡ ok (theStrings y)) × (theStrings (both x y) ≡ theStrings x ++ theStrings y)
+    parts : (x ≡ ok (valuesOf x)) × (y ≡ ok (valuesOf y)) × (valuesOf (both x y) ≡ valuesOf x ++ valuesOf y)
     parts = both-passed x y (f .passed)
 
-    both-text : at .byte + length (joined (theStrings x)) + length (joined (theStrings y)) ≤ textRoom
+    both-text : at .byte + length (joined (valuesOf x)) + length (joined (valuesOf y)) ≤ textRoom
     both-text =
-        omega (arith, f .text, ap (λ (ss : List (List ℕ)). length (joined ss)) (parts .2), length-joined (theStrings x) (theStrings y))
+        omega (arith, f .text, ap (λ (ss : List (List ℕ)). length (joined ss)) (parts .2), length-joined (valuesOf x) (valuesOf y))
 
-    both-spans : 2 * (at .string + length (theStrings x) + length (theStrings y)) ≤ spanRoom
-    both-spans = omega (arith, f .spans, ap length (parts .2), length-append (theStrings x) (theStrings y))
+    both-spans : 2 * (at .string + length (valuesOf x) + length (valuesOf y)) ≤ spanRoom
+    both-spans = omega (arith, f .spans, ap length (parts .2), length-append (valuesOf x) (valuesOf y))
 
     pub fits-first : FitsAt x textRoom spanRoom at
     fits-first = record { passed = parts .0; text = omega (arith, both-text); spans = omega (arith, both-spans) }
@@ -100,8 +100,8 @@ module _ (x y : Strings) where
 
     pub writes-both : {last : Position} {t'' s'' : List ℕ} → WritesAt y next t' s' last t'' s'' → WritesAt (both x y) at t s last t'' s''
     writes-both {last} {t''} {s''} v =
-        let j = theStrings x in
-        let k = theStrings y in
+        let j = valuesOf x in
+        let k = valuesOf y in
         let p = length-spans (at .byte) j in
         let q = length-spans (next .byte) k in
         record {

@@ -12,7 +12,7 @@ use lib.ListN.{length, getD, replicate, length-replicate, getD-replicate}
 use Rattle.text.specs.Result.{ok, check}
 use Rattle.text.proofs.ResultLaws.{check-passed, seq-passed, bind-passed, each-holds}
 use Rattle.text.proofs.SameLaws.{same-refl}
-use Rattle.writer.specs.Array.{Array, payload, arrayOf, checkShape, payloads, payloadSpans}
+use Rattle.writer.specs.Array.{Array, noArray, Accepted, payload, arrayOf, checkShape, payloads, payloadSpans}
 use Rattle.writer.specs.FileWrapper.{fileWrapper}
 use Rattle.writer.specs.Spans.{offsetAt, endAt, checkStrings}
 use Rattle.writer.proofs.LayoutLaws.{length-payload-spans, payload-at, span-offset, span-end, payloads-within}
@@ -24,13 +24,6 @@ use Rattle.reader.specs.Saveobj.{decodePayload}
 use Rattle.reader.specs.declared.opaque.OpaqueMetadata.{OpaqueMetadata}
 use Rattle.reader.proofs.BuiltLaws.{built-opens, names-are, object-checked, class-is, triples-are}
 use Rattle.reader.proofs.RoundTrip.{round-trip}
-
--- an array that writing accepted, from some dimensions, text and spans
-pub record Accepted (a : Array) : Type 0 where
-  pub dims : List ℕ
-  pub text : List ℕ
-  pub spans : List ℕ
-  pub is : arrayOf dims text spans ≡ ok a
 
 module _ {a : Array} (w : Accepted a) where
   small : length (payload a) ≤ 2097152
@@ -48,10 +41,6 @@ module _ {a : Array} (w : Accepted a) where
   accepted-decodes =
       let n = append-nil (payload a) in
       rw n at (round-trip (w .dims) (w .text) (w .spans) (w .is) [] (rw n small))
-
--- an array where there is none
-abbrev none : Array
-none = record { dims = []; strings = [] }
 
 module _ (xs : List Array) (few : length xs ≤ 349522) where
   abbrev n : ℕ
@@ -91,25 +80,25 @@ module _ (xs : List Array) (few : length xs ≤ 349522) where
       (rw cells (each-holds 13 (isCell directory (length words)) n each-cell))
 
   -- entry j is array j's payload
-  pub canonical-cell : (j place : ℕ) → j < n → cellAt directory kinds words j place ≡ ok (payload (getD xs j none))
+  pub canonical-cell : (j place : ℕ) → j < n → cellAt directory kinds words j place ≡ ok (payload (getD xs j noArray))
   unfolding cellAt
   canonical-cell j place h =
       simp (lt-ltb j (length directory / 2) (omega (arith, cells)), eq-eqb (getD kinds j 0) 0 (getD-replicate n j 0 0 h)) (ap ok (payload-at xs j h))
 
-  module _ (id : ℕ) (least : 1 ≤ id) (most : id ≤ n) (w : Accepted (getD xs (id - 1) none)) where
-    id-decodes : idStrings directory kinds words id ≡ ok (getD xs (id - 1) none .strings)
+  module _ (id : ℕ) (least : 1 ≤ id) (most : id ≤ n) (w : Accepted (getD xs (id - 1) noArray)) where
+    id-decodes : idStrings directory kinds words id ≡ ok (getD xs (id - 1) noArray .strings)
     unfolding idStrings cellOf
     id-decodes = simp (le-leb 1 id least) (rw (canonical-cell (id - 1) id (omega arith)) (accepted-decodes w))
 
     -- by opaque metadata whose ids are this id, once
     pub canonical-first : (metadata : List ℕ) {m : OpaqueMetadata} → opaqueMetadata metadata ≡ ok m → m .ids ≡ 1 → getD metadata (m .«first_id») 0 ≡ id
-        → metadataStrings (fileWrapper n) directory kinds words metadata ≡ ok (getD xs (id - 1) none .strings)
+        → metadataStrings (fileWrapper n) directory kinds words metadata ≡ ok (getD xs (id - 1) noArray .strings)
     unfolding metadataStrings idsStrings
     canonical-first metadata {m} e one is =
-        rw (built-opens n few, canonical-directory, e, one, is, id-decodes) (ap ok (append-nil (getD xs (id - 1) none .strings)))
+        rw (built-opens n few, canonical-directory, e, one, is, id-decodes) (ap ok (append-nil (getD xs (id - 1) noArray .strings)))
 
     -- by its own property
-    pub canonical-second : objectStrings (fileWrapper n) directory kinds words id ≡ ok (getD xs (id - 1) none .strings)
+    pub canonical-second : objectStrings (fileWrapper n) directory kinds words id ≡ ok (getD xs (id - 1) noArray .strings)
     unfolding objectStrings stringClass triplesStrings propertyStrings position
     canonical-second =
         rw (built-opens n few, canonical-directory, object-checked n few id least most, class-is n few id least most, same-refl stringName, triples-are n few id least most, names-are n few .0, same-refl anyName)

@@ -6,7 +6,7 @@ use mathlib.Core.List.{List, [], flatMap}
 use native.Mathlib.Omega.{arith}
 use lib.ListN.{length, getD, take, drop, length-append}
 use Rattle.text.specs.Errors.{failureOf}
-use Rattle.text.specs.Result.{Result, ok, error, mapResult}
+use Rattle.text.specs.Result.{Result, ok, error, mapResult, valuesOf}
 use Rattle.text.specs.declared.error.MatError.{MatError}
 use Rattle.text.proofs.BufferLaws.{put-none}
 use Rattle.text.proofs.ResultLaws.{reply-is, bind-passed}
@@ -18,7 +18,7 @@ use Rattle.reader.specs.Opaque.{opaqueMetadata, opaqueReplyOf}
 use Rattle.reader.specs.Opening.{opened}
 use Rattle.reader.specs.Replies.{parseReplyOf, checkedOf}
 use Rattle.reader.specs.Saveobj.{decodePayload, joined, spansFrom}
-use Rattle.reader.specs.SaveobjStages.{Counts, countsOf, stringsReplyOf, theStrings, origin, FitsAt, WritesAt, DecodesStrings}
+use Rattle.reader.specs.SaveobjStages.{Counts, countsOf, stringsReplyOf, origin, FitsAt, WritesAt, DecodesStrings}
 use Rattle.reader.specs.declared.cells.CellReply.{CellReply}
 use Rattle.reader.specs.declared.cells.CellReply.the-variants as cell
 use Rattle.reader.specs.declared.file_wrapper.Checked.{Checked}
@@ -125,8 +125,8 @@ module _ (directory kinds words metadata : List ℕ) where
       let p = both-passed (one i) (ids (suc i) n) (sym (ids-suc i n) ∙ e) in
       let a = id-most (getD metadata i 0) (p .0) in
       let b = ids-most (suc i) n (p .1) in
-      let j = theStrings (one i) in
-      let k = theStrings (ids (suc i) n) in
+      let j = valuesOf (one i) in
+      let k = valuesOf (ids (suc i) n) in
       rw (p .2) (omega (arith, a .0, b .0, length-joined j k), omega (arith, a .1, b .1, length-append j k))
 
   -- ---- the loop of `measure_ids`

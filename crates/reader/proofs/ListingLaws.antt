@@ -10,14 +10,14 @@ use borrow.Author.Tests.{le-leb, lt-leb, leb-true}
 use lib.Dec.{leb}
 use lib.ListN.{length, getD, take, drop, set, length-append, length-drop}
 use lib.Seq.{length-take-le, take-length}
-use Rattle.text.specs.Result.{Result, ok, error, mapResult, overwritten, _>>_, _>>=_}
+use Rattle.text.specs.Result.{Result, ok, error, mapResult, overwritten, _>>_, _>>=_, valuesOf}
 use Rattle.text.specs.declared.error.Failure.{Failure}
 use Rattle.text.specs.declared.error.MatError.{MatError}
 use Rattle.text.specs.declared.error.MatError.the-variants.{OutputTooShort}
 use Rattle.text.proofs.ResultLaws.{reply-is, seq-passed, seq-failed, bind-passed}
 use Rattle.text.proofs.TestLaws.{either}
 use Rattle.reader.specs.Objects.{objectOf, objectsFrom, objectRows}
-use Rattle.reader.specs.ObjectStages.{firstBlocks, AreCursors, ToObject, objectReplyOf, Stands, ReadsObject, checkObjects, valuesOf, allObjects, noRow, blankRows, listingReplyOf, lastRow, countOf, Listable, IsListing, Lists, ToNext, NextObject}
+use Rattle.reader.specs.ObjectStages.{firstBlocks, AreCursors, ToObject, objectReplyOf, Stands, ReadsObject, checkObjects, allObjects, noRow, blankRows, listingReplyOf, lastRow, countOf, Listable, IsListing, Lists, ToNext, NextObject}
 use Rattle.reader.specs.Opening.{opened, Opens}
 use Rattle.reader.specs.Queries.{objectRecord, intoOutput}
 use Rattle.reader.specs.Replies.{parseReplyOf, checkedOf, objectsReplyOf, WritesObjects}

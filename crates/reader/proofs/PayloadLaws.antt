@@ -10,7 +10,7 @@ use borrow.Author.Tests.{le-leb, lt-leb, leb-true}
 use lib.Dec.{leb}
 use lib.ListN.{length}
 use Rattle.text.specs.Errors.{failureOf}
-use Rattle.text.specs.Result.{Result, ok, error, mapResult, checkEach, overwritten}
+use Rattle.text.specs.Result.{Result, ok, error, mapResult, checkEach, overwritten, valuesOf}
 use Rattle.text.specs.Utf16.{textOf, theText}
 use Rattle.text.specs.declared.error.Failure.{Failure}
 use Rattle.text.specs.declared.error.MatError.{MatError}
@@ -18,7 +18,7 @@ use Rattle.text.specs.declared.error.MatError.the-variants.{OutputTooShort}
 use Rattle.text.proofs.BufferLaws.{put-front}
 use Rattle.text.proofs.ResultLaws.{reply-is, seq-passed, bind-passed, checkEach-passed, check-is}
 use Rattle.reader.specs.Saveobj.{unitsBefore, Header, storedUnits, storedStrings, checkHeader, checkSum, checkLengths, checkStrings, decodePayload, joined, spansFrom, intoStrings}
-use Rattle.reader.specs.SaveobjStages.{numberOf, headerOf, Counts, countsOf, stringsReplyOf, UnitsChecked, measuredStrings, StringsFit, WritesStrings, theStrings, origin, FitsAt, WritesAt, DecodesStrings}
+use Rattle.reader.specs.SaveobjStages.{numberOf, headerOf, Counts, countsOf, stringsReplyOf, UnitsChecked, measuredStrings, StringsFit, WritesStrings, origin, FitsAt, WritesAt, DecodesStrings}
 use Rattle.reader.specs.declared.saveobj.HeaderReply.{HeaderReply}
 use Rattle.reader.specs.declared.saveobj.HeaderReply.the-variants as header
 use Rattle.reader.specs.declared.saveobj.NumberReply.{NumberReply}
@@ -161,7 +161,7 @@ pub ruleset measure-outcomes = (payload-header, payload-sum, payload-units, payl
 -- ---- the outcomes of `put_payload`
 
 abbrev stringsIn : List ℕ → List (List ℕ)
-stringsIn payload = theStrings (decodePayload payload)
+stringsIn payload = valuesOf (decodePayload payload)
 
 module _ (payload t s : List ℕ) (at : Position) (f : FitsAt (decodePayload payload) (length t) (length s) at) {x : HeaderReply} (e : headerOf x ≡ checkHeader payload) where
   module _ {base n : ℕ} (g : x ≡ header.Header base n) where
@@ -205,7 +205,7 @@ module _ (payload t s : List ℕ) (at : Position) (f : FitsAt (decodePayload pay
 -- ---- the outcomes of `decode_string_saveobj`
 
 pub counts-are : (m : Result (List (List ℕ))) {b n : ℕ} → _≡_ {A = Result Counts} (mapResult countsOf m) (ok (record { bytes = b; strings = n }))
-    → (m ≡ ok (theStrings m)) × (length (joined (theStrings m)) ≡ b) × (length (theStrings m) ≡ n)
+    → (m ≡ ok (valuesOf m)) × (length (joined (valuesOf m)) ≡ b) × (length (valuesOf m) ≡ n)
 counts-are (ok ss) {b} {n} e =
     let k : _≡_ {A = Counts} (countsOf ss) (record { bytes = b; strings = n }) = cc in
     (refl, ap (λ (c : Counts). c .bytes) k, ap (λ (c : Counts). c .strings) k)
@@ -238,7 +238,7 @@ module _ (m : Result (List (List ℕ))) (text spans : List ℕ) where
     decode-refused {f} g = comes (error (failureOf f)) (rw (error-is m (reply-is stringsReplyOf e g))) refl refl refl
 
     module _ {b n : ℕ} (g : x ≡ reply.Strings b n) where
-      counts : (m ≡ ok (theStrings m)) × (length (joined (theStrings m)) ≡ b) × (length (theStrings m) ≡ n)
+      counts : (m ≡ ok (valuesOf m)) × (length (joined (valuesOf m)) ≡ b) × (length (valuesOf m) ≡ n)
       counts = counts-are m (reply-is stringsReplyOf e g)
 
       short : (need : ℕ) → intoStrings m (length text) (length spans) ≡ error (record { number = 34; place = need })
@@ -248,19 +248,19 @@ module _ (m : Result (List (List ℕ))) (text spans : List ℕ) where
       pub decode-short-text : b < 2 ^ 64 → length text < b → DecodesStrings m text spans (reply.Error (OutputTooShort b)) text spans
       decode-short-text f h =
           let l = counts .1 in
-          let p : min (length (joined (theStrings m))) (2 ^ 64 - 1) ≡ b = omega arith in
-          short b (ap (λ (y : Result (List (List ℕ))). intoStrings y (length text) (length spans)) (counts .0) ∙ simp (lt-leb (length (joined (theStrings m))) (length text) (omega arith), p))
+          let p : min (length (joined (valuesOf m))) (2 ^ 64 - 1) ≡ b = omega arith in
+          short b (ap (λ (y : Result (List (List ℕ))). intoStrings y (length text) (length spans)) (counts .0) ∙ simp (lt-leb (length (joined (valuesOf m))) (length text) (omega arith), p))
 
       module _ (fits : b ≤ length text) where
         pub decode-short-spans : 2 * n < 2 ^ 64 → length spans < 2 * n → DecodesStrings m text spans (reply.Error (OutputTooShort (2 * n))) text spans
         decode-short-spans f h =
             let l = counts .1 in
             let k = counts .2 in
-            let p : min (2 * length (theStrings m)) (2 ^ 64 - 1) ≡ 2 * n = omega arith in
+            let p : min (2 * length (valuesOf m)) (2 ^ 64 - 1) ≡ 2 * n = omega arith in
             short (2 * n)
             (ap (λ (y : Result (List (List ℕ))). intoStrings y (length text) (length spans)) (counts .0)
             ∙ simp
-            (le-leb (length (joined (theStrings m))) (length text) (omega arith), lt-leb (2 * length (theStrings m)) (length spans) (omega arith), p))
+            (le-leb (length (joined (valuesOf m))) (length text) (omega arith), lt-leb (2 * length (valuesOf m)) (length spans) (omega arith), p))
 
         pub decode-fits : 2 * n ≤ length spans → FitsAt m (length text) (length spans) origin
         decode-fits room = record { passed = counts .0; text = omega (arith, counts .1); spans = omega (arith, counts .2) }
@@ -270,12 +270,12 @@ module _ (m : Result (List (List ℕ))) (text spans : List ℕ) where
         decode-written room w =
             let l = counts .1 in
             let k = counts .2 in
-            comes (ok (theStrings m))
+            comes (ok (valuesOf m))
             (ap (λ (y : Result (List (List ℕ))). intoStrings y (length text) (length spans)) (counts .0)
             ∙ simp
-            (le-leb (length (joined (theStrings m))) (length text) (omega arith), le-leb (2 * length (theStrings m)) (length spans) (omega arith)))
-            (rw (l, k)) (w .writes .text-after ∙ put-front text (joined (theStrings m)))
-            (w .writes .spans-after ∙ put-front spans (spansFrom 0 (theStrings m)))
+            (le-leb (length (joined (valuesOf m))) (length text) (omega arith), le-leb (2 * length (valuesOf m)) (length spans) (omega arith)))
+            (rw (l, k)) (w .writes .text-after ∙ put-front text (joined (valuesOf m)))
+            (w .writes .spans-after ∙ put-front spans (spansFrom 0 (valuesOf m)))
 
 -- the values of the spans of a payload fit 64 bits
 pub decode-values : (payload : List ℕ) {x : StringsReply} {b n : ℕ} → x ≡ reply.Strings b n → stringsReplyOf x ≡ mapResult countsOf (decodePayload payload) → 2 * n < 2 ^ 64

@@ -8,7 +8,7 @@ use lib.Dec.{eqb}
 use lib.ListN.{length, getD}
 use Rattle.text.specs.Buffer.{same}
 use Rattle.text.specs.Errors.{failureOf}
-use Rattle.text.specs.Result.{Result, ok, error, mapResult, _>>_}
+use Rattle.text.specs.Result.{Result, ok, error, mapResult, _>>_, valuesOf}
 use Rattle.text.specs.Utf8.{lossy}
 use Rattle.reader.specs.Blocks.{IsCursor}
 use Rattle.reader.specs.Names.{pieceBytes}
@@ -91,11 +91,6 @@ pub record ReadsObject (b : List ℕ) (w : FileWrapper) (r : ObjectRecord) (x : 
 -- check 10 for n objects from id on
 abbrev pub checkObjects : List ℕ → FileWrapper → ℕ → ℕ → Result (Unit {0})
 checkObjects b w id n = objectsFrom b w id n >> ok tt
-
--- the objects of a blob, none where it is refused
-abbrev pub valuesOf : {A : Type 0} → Result (List A) → List A
-valuesOf (ok xs) = xs
-valuesOf (error e) = []
 
 abbrev pub allObjects : List ℕ → List ObjectRow
 allObjects b = valuesOf (objectRows b)

@@ -1,13 +1,16 @@
 -- Saveobj payloads: the strings that one holds, with checks 22 to 29, and what decoding one into output buffers comes to.
 -- Assumes nothing.
 use Prim.Native.Nat.{ℕ, zero, suc, _+_, _-_, _*_, _^_}
-use mathlib.Core.Bool.{cond}
+use mathlib.Core.Bool.{Bool, cond, _&&_}
 use mathlib.Core.List.{List, [], _∷_, flatMap}
 use lib.Dec.{leb, ltb, eqb}
-use lib.ListN.{length, getD}
-use Rattle.text.specs.Result.{Result, ok, check, checkEach, checkOutput, _>>_, _>>=_}
+use lib.ListN.{length, getD, take, drop}
+use Rattle.text.specs.Buffer.{same}
+use Rattle.text.specs.Result.{Result, ok, check, checkEach, checkOutput, isOk, valuesOf, _>>_, _>>=_}
 use Rattle.text.specs.Unicode.{within}
 use Rattle.text.specs.Utf16.{textOf, theText}
+use Rattle.writer.specs.Array as writer
+use Rattle.writer.specs.Array.{Array}
 use Rattle.writer.specs.Spans.{isSome}
 use Rattle.reader.specs.Units.{unitsIn}
 
@@ -86,6 +89,14 @@ decodePayload payload = do
   header ← checkHeader payload
   checkLengths payload (header .base) (header .strings)
   checkStrings payload (header .base) (header .strings)
+
+-- the dimensions and the strings of a payload that decodes
+abbrev pub decodedArray : List ℕ → Array
+decodedArray payload = record { dims = take (dimCount payload) (drop 2 payload); strings = valuesOf (decodePayload payload) }
+
+-- a payload in canonical form (01's written form): it passes 22–29, and is "exactly what writing gives for its own dimensions and strings"
+unfoldable pub isCanonicalPayload : List ℕ → Bool
+isCanonicalPayload payload = isOk (decodePayload payload) && same (writer.payload (decodedArray payload)) payload
 
 -- "UTF-8 text, end to end"
 abbrev pub joined : List (List ℕ) → List ℕ

@@ -7,7 +7,7 @@ use mathlib.Core.Option.{some}
 use lib.ListN.{length}
 use Rattle.text.specs.Buffer.{put}
 use Rattle.text.specs.Errors.{failureOf}
-use Rattle.text.specs.Result.{Result, ok, error, mapResult, overwritten}
+use Rattle.text.specs.Result.{Result, ok, error, mapResult, valuesOf, overwritten}
 use Rattle.text.specs.Utf16.{textOf, theText}
 use Rattle.reader.specs.declared.saveobj.NumberReply.{NumberReply}
 use Rattle.reader.specs.declared.saveobj.NumberReply.the-variants as number
@@ -65,25 +65,20 @@ pub record WritesStrings (ss : List (List ℕ)) (byte index : ℕ) (text spans :
   pub text-after : text' ≡ put text byte (joined ss)
   pub spans-after : spans' ≡ put spans (2 * index) (spansFrom byte ss)
 
--- the strings where there are some
-abbrev pub theStrings : Result (List (List ℕ)) → List (List ℕ)
-theStrings (ok ss) = ss
-theStrings (error e) = []
-
 -- the start of the text and of the spans
 abbrev pub origin : Position
 origin = record { byte = 0; string = 0 }
 
 -- a result has strings, and there is room for them and their spans at a position
 pub record FitsAt (m : Result (List (List ℕ))) (textRoom spanRoom : ℕ) (at : Position) : Type 0 where
-  pub passed : m ≡ ok (theStrings m)
-  pub text : at .byte + length (joined (theStrings m)) ≤ textRoom
-  pub spans : 2 * (at .string + length (theStrings m)) ≤ spanRoom
+  pub passed : m ≡ ok (valuesOf m)
+  pub text : at .byte + length (joined (valuesOf m)) ≤ textRoom
+  pub spans : 2 * (at .string + length (valuesOf m)) ≤ spanRoom
 
 -- the strings of a result are written at a position, and their spans; next is the position after them
 pub record WritesAt (m : Result (List (List ℕ))) (at : Position) (text spans : List ℕ) (next : Position) (text' spans' : List ℕ) : Type 0 where
-  pub strings : next .string ≡ at .string + length (theStrings m)
-  pub writes : WritesStrings (theStrings m) (at .byte) (at .string) text spans (next .byte) text' spans'
+  pub strings : next .string ≡ at .string + length (valuesOf m)
+  pub writes : WritesStrings (valuesOf m) (at .byte) (at .string) text spans (next .byte) text' spans'
 
 -- ---- the call
 

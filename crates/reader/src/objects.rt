@@ -18,6 +18,7 @@ ghost use Rattle.reader.specs.ObjectStages.{blockOf, cursorOf, withCurso
 ghost use Rattle.reader.specs.Replies.{checkedOf, objectsReplyOf, WritesObjects};
 
 // An object: its class, the region of its property block (0 saved, 1 normal), the block's id there, and how many properties it has.
+#[repr(C)]
 pub struct ObjectRow {
     pub class_id: u32,
     pub region: u32,

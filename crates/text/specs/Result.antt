@@ -2,7 +2,7 @@
 -- Assumes nothing.
 use Prim.Native.Nat.{ℕ, zero, suc, _-_, _^_, min}
 use mathlib.Core.Bool.{Bool, true, false}
-use mathlib.Core.List.{List, _++_}
+use mathlib.Core.List.{List, [], _++_}
 use mathlib.Core.Option.{Option, some, none}
 use lib.Dec.{leb}
 use lib.ListN.{length, drop}
@@ -30,6 +30,16 @@ mapResult f (error e) = error e
 abbrev pub orError : {A : Type 0} → Failure → Option A → Result A
 orError e (some a) = ok a
 orError e none = error e
+
+-- whether a call is accepted
+abbrev pub isOk : {A : Type 0} → Result A → Bool
+isOk (ok a) = true
+isOk (error e) = false
+
+-- the values of a list where there is one
+abbrev pub valuesOf : {A : Type 0} → Result (List A) → List A
+valuesOf (ok xs) = xs
+valuesOf (error e) = []
 
 -- one check: its number, whether it holds, and its place
 abbrev pub check : ℕ → Bool → ℕ → Result (Unit {0})

@@ -7,7 +7,7 @@ use native.Mathlib.Nat.{zero-add, suc-add}
 use native.Mathlib.Omega.{arith}
 use lib.ListN.{length, getD, take, drop, length-append}
 use lib.Seq.{slice, take-at, drop-at, take-nil, drop-nil, take-take}
-use Rattle.writer.specs.Array.{Array, payload, payloads, payloadSpans}
+use Rattle.writer.specs.Array.{Array, noArray, payload, payloads, payloadSpans}
 use Rattle.writer.specs.FileWrapper.{u32s, nameHeap, classEntries, entry, zeroEntry, entriesFrom, region, regions, offsetsFrom, fileWrapper}
 use Rattle.writer.specs.Spans.{offsetAt, endAt, stringAt}
 use Rattle.writer.specs.declared.file_wrapper.Region.{Region}
@@ -136,12 +136,8 @@ unfolding payloadSpans
 length-payload-spans o [] = refl
 length-payload-spans o (a ∷ xs) = omega (arith, length-payload-spans (o + length (payload a)) xs)
 
--- an array where there is none
-abbrev none : Array
-none = record { dims = []; strings = [] }
-
 span-of : (p : List ℕ) (o : ℕ) → length p ≡ o → (xs : List Array) (i : ℕ) → i < length xs
-    → stringAt (p ++ payloads xs) (payloadSpans o xs) i ≡ payload (getD xs i none)
+    → stringAt (p ++ payloads xs) (payloadSpans o xs) i ≡ payload (getD xs i noArray)
 unfolding payloads payloadSpans flatMap
 span-of p o h [] i l = absurd (omega arith)
 span-of p o h (a ∷ xs) zero l =
@@ -154,7 +150,7 @@ span-of p o h (a ∷ xs) (suc i) l =
     ∙ span-of (p ++ payload a) (o + length (payload a)) (length-append p (payload a) ∙ ap (λ (n : ℕ). n + length (payload a)) h) xs i (omega arith))
 
 -- the span of array i leads to its own payload
-pub payload-at : (xs : List Array) (i : ℕ) → i < length xs → stringAt (payloads xs) (payloadSpans 0 xs) i ≡ payload (getD xs i none)
+pub payload-at : (xs : List Array) (i : ℕ) → i < length xs → stringAt (payloads xs) (payloadSpans 0 xs) i ≡ payload (getD xs i noArray)
 payload-at xs i h = span-of [] 0 refl xs i h
 
 -- where the span of array j begins and ends: payloads stand end to end

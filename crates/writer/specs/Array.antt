@@ -1,6 +1,7 @@
 -- An array of strings, its saveobj payload, and the checks of writing one.
 -- Assumes nothing.
 use Prim.Native.Nat.{ℕ, _+_, _*_, _^_}
+use mathlib.Core.Path.{_≡_}
 use mathlib.Core.List.{List, [], _∷_, _++_, map, flatMap}
 use mathlib.Core.Option.{Option·getD}
 use lib.Dec.{leb, ltb, eqb}
@@ -14,6 +15,10 @@ use Rattle.writer.specs.Words.{packed}
 pub record Array : Type 0 where
   pub dims : List ℕ
   pub strings : List (List ℕ)
+
+-- what stands for an array where there is none
+abbrev pub noArray : Array
+noArray = record { dims = []; strings = [] }
 
 -- the code units of a well-formed string
 abbrev pub stringUnits : List ℕ → List ℕ
@@ -52,6 +57,13 @@ arrayOf dims text spans = do
   checkShape dims (length strings)
   check 32 (leb (length (payload (record { dims = dims; strings = strings }))) 2097152) (length (payload (record { dims = dims; strings = strings })))
   ok (record { dims = dims; strings = strings })
+
+-- an array that writing accepts: 30, 31 and 32's words hold of some dimensions, text and spans that it is made of
+pub record Accepted (a : Array) : Type 0 where
+  pub dims : List ℕ
+  pub text : List ℕ
+  pub spans : List ℕ
+  pub is : arrayOf dims text spans ≡ ok a
 
 -- writing a payload: 30, 31, 32, 34, for an output of `room` words
 unfoldable pub encodePayload : List ℕ → List ℕ → List ℕ → ℕ → Result (List ℕ)

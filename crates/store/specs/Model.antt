@@ -1,0 +1,127 @@
+-- Demand 3: the reference model (01's edited list), the execution of the edits' own definitions, and the claim about every list of edits.
+-- Assumes nothing.
+use Prim.Native.Nat.{ℕ, _-_, _*_, _≤_}
+use mathlib.Core.Path.{_≡_}
+use mathlib.Core.List.{List, [], _∷_, _++_}
+use lib.Dec.{leb}
+use lib.ListN.{length, getD, set}
+use Rattle.text.specs.Result.{Result, ok, error, check, checkOutput, mapResult, _>>_, _>>=_}
+use Rattle.writer.specs.Array.{Array, noArray, arrayOf}
+use Rattle.reader.specs.Decode.{anyName, stringName, metadataStrings, objectStrings}
+use Rattle.reader.specs.Objects.{objectTriples}
+use Rattle.reader.specs.Opaque.{opaqueMetadata}
+use Rattle.reader.specs.Queries.{intoOutput, nameText, objectClassText}
+use Rattle.reader.specs.Saveobj.{joined, intoStrings}
+use Rattle.reader.specs.declared.opaque.OpaqueMetadata.{OpaqueMetadata}
+use Rattle.store.specs.Store.{Store, serialize, counted}
+use Rattle.store.specs.Edits.{appended, replaced, storeAfter}
+
+-- a call with its arguments as they are lent: the id of a replacement, dimensions, text, spans
+pub data Edit : Type 0 where
+  append : List ℕ → List ℕ → List ℕ → Edit
+  replace : ℕ → List ℕ → List ℕ → List ℕ → Edit
+
+-- "the buffers' lengths"
+pub record Lengths : Type 0 where
+  pub blob : ℕ
+  pub directory : ℕ
+  pub kinds : ℕ
+  pub words : ℕ
+
+-- what a list of edits comes to: what it leaves, and the reply of each
+pub record Ended (A : Type 0) : Type 0 where
+  pub last : A
+  pub replies : List (Result (Unit {0}))
+
+-- accepted or refused, without the value
+abbrev pub replyOf : {A : Type 0} → Result A → Result (Unit {0})
+replyOf m = mapResult (λ x. tt) m
+
+-- ---- the model: "fed only the calls' arguments and the buffers' lengths"
+
+-- 34 for the parts of a store, "Sequence: blob, directory, kinds, words"
+unfoldable pub checkLengths : Lengths → Store → Result (Unit {0})
+checkLengths l s = do
+  checkOutput (length (s .blob)) (l .blob)
+  checkOutput (length (s .directory)) (l .directory)
+  checkOutput (length (s .kinds)) (l .kinds)
+  checkOutput (length (s .words)) (l .words)
+
+-- the list that an array makes is tried: "A trial puts 30, 31, 32 in turn, then 34 against the lengths of the tried list's written form."
+unfoldable pub tried : Lengths → List ℕ → List ℕ → List ℕ → (Array → List Array) → Result (List Array)
+tried l dims text spans list = do
+  a ← arrayOf dims text spans
+  check 32 (leb (length (list a)) 349522) (length (list a))
+  checkLengths l (serialize (list a))
+  ok (list a)
+
+-- "Append tries the list with its array added last; replace first puts 8 (from 1 to the number of arrays), then tries the list with its array
+-- in place of that id's."
+unfoldable pub candidate : Lengths → List Array → Edit → Result (List Array)
+candidate l xs (append dims text spans) = tried l dims text spans (λ a. xs ++ a ∷ [])
+candidate l xs (replace id dims text spans) = do
+  check 8 (leb 1 id) id
+  check 8 (leb id (length xs)) id
+  tried l dims text spans (λ a. set xs (id - 1) a)
+
+-- "A no is the call's refusal and the list stays; otherwise the tried list is the list."
+abbrev pub listAfter : List Array → Result (List Array) → List Array
+listAfter xs (ok ys) = ys
+listAfter xs (error e) = xs
+
+unfoldable pub modelFrom : Lengths → List Array → List Edit → Ended (List Array)
+modelFrom l xs [] = record { last = xs; replies = [] }
+modelFrom l xs (e ∷ es) = record {
+  last = modelFrom l (listAfter xs (candidate l xs e)) es .last;
+  replies = replyOf (candidate l xs e) ∷ modelFrom l (listAfter xs (candidate l xs e)) es .replies;
+}
+
+-- "The edited list of demand 3 starts with no arrays"
+abbrev pub model : Lengths → List Edit → Ended (List Array)
+model l es = modelFrom l [] es
+
+-- ---- the execution: "each call gets the buffers and counts as the last one left them"
+
+unfoldable pub call : Store → Edit → Result (List Array)
+call s (append dims text spans) = appended s dims text spans
+call s (replace id dims text spans) = replaced s id dims text spans
+
+unfoldable pub execute : Store → List Edit → Ended Store
+execute s [] = record { last = s; replies = [] }
+execute s (e ∷ es) = record {
+  last = execute (storeAfter s (call s e)) es .last;
+  replies = replyOf (call s e) ∷ execute (storeAfter s (call s e)) es .replies;
+}
+
+-- ---- the claim
+
+abbrev pub lengthsOf : Store → Lengths
+lengthsOf s = record { blob = length (s .blob); directory = length (s .directory); kinds = length (s .kinds); words = length (s .words) }
+
+-- object id of a store, "read into buffers no shorter than the answer", by the definitions that the calls' contracts cite: class "string", "the
+-- single property "any" with heap value id − 1", and the strings of array a, "by any accepted word list whose ids are that one id, once, or by
+-- the object's own property"
+pub record ReadsBack (s : Store) (id : ℕ) (a : Array) : Type 0 where
+  pub class : (room : ℕ) → length stringName ≤ room → intoOutput (objectClassText (s .blob) id) room ≡ ok stringName
+  pub property :
+      (room : ℕ) → 1 ≤ room
+      → intoOutput (objectTriples (s .blob) id) room ≡ ok ((record { «name_idx» = 1; «field_type» = 1; value = id - 1 }) ∷ [])
+  pub name : (room : ℕ) → length anyName ≤ room → intoOutput (nameText (s .blob) 1) room ≡ ok anyName
+  pub by-metadata :
+      (metadata : List ℕ) {m : OpaqueMetadata} → opaqueMetadata metadata ≡ ok m → m .ids ≡ 1 → getD metadata (m .«first_id») 0 ≡ id
+      → (textRoom spanRoom : ℕ) → length (joined (a .strings)) ≤ textRoom → 2 * length (a .strings) ≤ spanRoom
+      → intoStrings (metadataStrings (s .blob) (s .directory) (s .kinds) (s .words) metadata) textRoom spanRoom ≡ ok (a .strings)
+  pub by-property :
+      (textRoom spanRoom : ℕ) → length (joined (a .strings)) ≤ textRoom → 2 * length (a .strings) ≤ spanRoom
+      → intoStrings (objectStrings (s .blob) (s .directory) (s .kinds) (s .words) id) textRoom spanRoom ≡ ok (a .strings)
+
+-- after the edits es on the store s the replies are these and the store is s'
+pub record Edited (s : Store) (es : List Edit) (s' : Store) (replies : List (Result (Unit {0}))) : Type 0 where
+  -- "each call is accepted, or refused with its number and place, exactly as 01's edited list says"
+  pub answers : replies ≡ model (lengthsOf s) es .replies
+  -- "the counted parts [..] and the three counts, are exactly the written form of the edited list's n arrays"
+  pub store : counted s' ≡ serialize (model (lengthsOf s) es .last)
+  -- "Each id from 1 to n [..] gives [..] the strings of its own array, number id of the edited list, in order"
+  pub reads :
+      (id : ℕ) → 1 ≤ id → id ≤ length (model (lengthsOf s) es .last)
+      → ReadsBack (counted s') id (getD (model (lengthsOf s) es .last) (id - 1) noArray)
