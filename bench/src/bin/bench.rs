@@ -1,0 +1,276 @@
+//! Times the library and the original Rust on the same inputs; see README.md
+//! for what is timed on each side.
+
+use std::hint::black_box;
+use std::time::{Duration, Instant};
+
+use bench::generate::blobs::Plan;
+use bench::generate::lists::MAGIC;
+use mcos::{FileWrapper, Property};
+
+/// Each side is timed so many times, in turn; the best counts.
+const TURNS: usize = 60;
+
+/// A timing repeats its call until it has taken this long.
+const LONG_ENOUGH: Duration = Duration::from_millis(4);
+
+fn main() {
+    println!("| what | library | Rust | library / Rust |");
+    println!("|---|---:|---:|---:|");
+    opening();
+    names();
+    objects();
+    payloads();
+    word_lists();
+    building();
+    text();
+}
+
+/// The time of so many calls; what they give is dropped in it.
+fn elapsed<T>(repeats: u32, call: &mut impl FnMut() -> T) -> Duration {
+    let start = Instant::now();
+    for _ in 0..repeats {
+        black_box(call());
+    }
+    start.elapsed()
+}
+
+/// How often a call is repeated to take long enough.
+fn repeats<T>(call: &mut impl FnMut() -> T) -> u32 {
+    let mut repeats = 1;
+    while elapsed(repeats, call) < LONG_ENOUGH {
+        repeats *= 2;
+    }
+    repeats
+}
+
+/// The seconds of one call.
+fn seconds<T>(repeats: u32, call: &mut impl FnMut() -> T) -> f64 {
+    elapsed(repeats, call).as_secs_f64() / f64::from(repeats)
+}
+
+/// The best seconds of each side; they take turns, so that both see the same
+/// load.
+fn best<T, U>(library: &mut impl FnMut() -> T, rust: &mut impl FnMut() -> U) -> (f64, f64) {
+    let (library_repeats, rust_repeats) = (repeats(library), repeats(rust));
+    let mut best = (f64::INFINITY, f64::INFINITY);
+    for _ in 0..TURNS {
+        best.0 = best.0.min(seconds(library_repeats, library));
+        best.1 = best.1.min(seconds(rust_repeats, rust));
+    }
+    best
+}
+
+/// A row of the table. `spent` seconds of the Rust's side are its stand-ins'.
+fn row(what: &str, (library, rust): (f64, f64), spent: f64) {
+    let rust = rust - spent;
+    let micros = |seconds: f64| format!("{:.2} µs", seconds * 1e6);
+    let ratio = library / rust;
+    println!(
+        "| {what} | {} | {} | {ratio:.2} |",
+        micros(library),
+        micros(rust)
+    );
+}
+
+fn time<T, U>(what: &str, mut library: impl FnMut() -> T, mut rust: impl FnMut() -> U) {
+    row(what, best(&mut library, &mut rust), 0.0);
+}
+
+/// What the oracle does beside the Rust to open a blob: its guard counts zeros,
+/// and its stand-in for a file makes five copies, all alive at once.
+fn stand_in(blob: &[u8]) -> f64 {
+    let mut copies = || {
+        black_box(black_box(blob).iter().filter(|&&byte| byte == 0).count());
+        [(); 5].map(|()| black_box(blob).to_vec())
+    };
+    let repeats = repeats(&mut copies);
+    let turns = (0..TURNS).map(|_| seconds(repeats, &mut copies));
+    turns.fold(f64::INFINITY, f64::min)
+}
+
+fn opening() {
+    for (objects, shown) in [(100, "100"), (5_000, "5,000")] {
+        let blob = oracle::build_metadata(objects).expect("a small number");
+        let mut library = || FileWrapper::parse(black_box(&blob));
+        let mut rust = || oracle::open(black_box(&blob));
+        let what = format!("open a blob of {shown} objects");
+        row(&what, best(&mut library, &mut rust), stand_in(&blob));
+    }
+}
+
+/// The library opens the blob for each query. The Rust opens it once: its time
+/// is given with the opening and without.
+fn queries(what: &str, blob: &[u8], mut library: impl FnMut(), ask: impl Fn(&oracle::Store)) {
+    let opened = oracle::open(blob).expect("a good blob");
+    let mut with = || ask(&oracle::open(black_box(blob)).expect("a good blob"));
+    let times = best(&mut library, &mut with);
+    row(
+        &format!("{what}; the Rust opens once"),
+        times,
+        stand_in(blob),
+    );
+    time(&format!("{what}; the Rust has opened"), library, || {
+        ask(&opened)
+    });
+}
+
+fn names() {
+    const NAMES: u32 = 200;
+    let name = |i: u32| format!("property_{i:03}").into_bytes();
+    let plan = Plan {
+        names: (0..NAMES).map(name).collect(),
+        zeros: 1,
+        declared: NAMES,
+        ..Plan::default()
+    };
+    let blob = plan.blob();
+    let mut text = [0; 64];
+    let library = || {
+        for index in 1..=NAMES {
+            black_box(mcos::name(black_box(&blob), index, &mut text)).expect("a name");
+        }
+    };
+    queries("200 names of 12 bytes", &blob, library, |store| {
+        for index in 1..=NAMES {
+            black_box(store.name(index)).expect("a name");
+        }
+    });
+}
+
+fn objects() {
+    const OBJECTS: u32 = 100;
+    let blob = oracle::build_metadata(OBJECTS as usize).expect("a small number");
+    let mut text = [0; 64];
+    let library = || {
+        for id in 1..=OBJECTS {
+            black_box(mcos::object_class_name(black_box(&blob), id, &mut text)).expect("a class");
+        }
+    };
+    queries("classes of 100 objects", &blob, library, |store| {
+        for id in 1..=OBJECTS {
+            black_box(store.class(id)).expect("a class");
+        }
+    });
+    let mut rows = [Property::default(); 4];
+    let library = || {
+        for id in 1..=OBJECTS {
+            black_box(mcos::properties(black_box(&blob), id, &mut rows)).expect("properties");
+        }
+    };
+    queries("properties of 100 objects", &blob, library, |store| {
+        for id in 1..=OBJECTS {
+            black_box(store.properties(id)).expect("properties");
+        }
+    });
+}
+
+fn payloads() {
+    const STRINGS: usize = 1_000;
+    const CHARS: usize = 40;
+    for (name, chars) in [
+        ("ASCII", "The quick brown fox"),
+        ("Latin", "Größe naïve façade"),
+        ("emoji", "🛢🚀😀🎉"),
+    ] {
+        let string = |i: usize| chars.chars().cycle().skip(i).take(CHARS).collect();
+        let strings: Vec<String> = (0..STRINGS).map(string).collect();
+        let text = strings.concat();
+        let mut spans = Vec::new();
+        for string in &strings {
+            let end = spans
+                .as_chunks()
+                .0
+                .last()
+                .map_or(0, |&[offset, len]| offset + len);
+            spans.extend([end, string.len() as u64]);
+        }
+        let (dims, rust_dims) = ([STRINGS as u64], [STRINGS]);
+        let payload = oracle::encode_payload(&strings, &rust_dims).expect("an array");
+
+        let mut words = vec![0; payload.len()];
+        let mut write = || {
+            let (text, words) = (black_box(text.as_bytes()), &mut words[..]);
+            black_box(mcos::encode_string_saveobj_payload(
+                &dims, text, &spans, words,
+            ))
+            .expect("an array");
+        };
+        write();
+        let rust = || oracle::encode_payload(black_box(&strings), &rust_dims);
+        time(
+            &format!("write 1,000 strings of 40 characters, {name}"),
+            write,
+            rust,
+        );
+        assert_eq!(words, payload);
+
+        let (mut read_text, mut read_spans) = (vec![0; text.len()], vec![0; spans.len()]);
+        let mut read = || {
+            let (text, spans) = (&mut read_text[..], &mut read_spans[..]);
+            black_box(mcos::decode_string_saveobj(
+                black_box(&payload),
+                text,
+                spans,
+            ))
+            .expect("a payload");
+        };
+        read();
+        let rust = || oracle::decode_payload(black_box(&payload));
+        time(
+            &format!("read 1,000 strings of 40 characters, {name}"),
+            read,
+            rust,
+        );
+        assert_eq!((read_text, read_spans), (text.into_bytes(), spans));
+    }
+}
+
+fn word_lists() {
+    let mut list = vec![MAGIC, 2, 1, 1_000];
+    list.extend(1..=1_000);
+    list.push(1);
+    time(
+        "opaque metadata of 1,000 ids",
+        || mcos::parse_opaque_metadata(black_box(&list)),
+        || oracle::opaque_metadata(black_box(&list)),
+    );
+}
+
+fn building() {
+    const OBJECTS: u64 = 5_000;
+    let mut blob = vec![0; 144 + 48 * OBJECTS as usize];
+    let mut library = || {
+        black_box(mcos::build_string_filewrapper_metadata(
+            black_box(OBJECTS),
+            &mut blob,
+        ))
+        .expect("a small number");
+    };
+    library();
+    let rust = || oracle::build_metadata(black_box(OBJECTS as usize));
+    time("build a blob of 5,000 objects", library, rust);
+    assert_eq!(Ok(blob), oracle::build_metadata(OBJECTS as usize));
+}
+
+fn text() {
+    const LENGTH: usize = 40_000;
+    for (name, chars) in [("ASCII", "quick "), ("mixed", "aé€🛢")] {
+        let units: Vec<u16> = chars.encode_utf16().cycle().take(LENGTH).collect();
+        let mut text = vec![0; 3 * LENGTH];
+        let library = || mcos::decode_utf16(black_box(&units), &mut text);
+        let rust = || oracle::decode_utf16(black_box(&units));
+        time(&format!("decode 40,000 code units, {name}"), library, rust);
+    }
+    for (name, bytes) in [
+        ("ASCII", &b"quick "[..]),
+        ("mixed", "aé€🛢".as_bytes()),
+        ("ill-formed", b"a\xFFb\xE2\x82c\xF0\x9F"),
+    ] {
+        let bytes: Vec<u8> = bytes.iter().copied().cycle().take(LENGTH).collect();
+        let mut out = vec![0; 3 * LENGTH];
+        let library = || mcos::write_lossy(black_box(&bytes), &mut out);
+        let rust = || oracle::from_utf8_lossy(black_box(&bytes));
+        time(&format!("repair 40,000 bytes, {name}"), library, rust);
+    }
+}

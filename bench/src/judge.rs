@@ -1,0 +1,294 @@
+//! Holds one answer of the library to the Rust's.
+
+use mcos::MatError;
+use oracle::Refusal;
+
+use crate::lent::{Lengths, Lent, Room, Written};
+use crate::library::{Cells, KEPT, Reply, Values};
+use crate::rules::{self, Limit, Rule};
+use crate::tally::{Kind, Tally};
+
+/// What the Rust answers.
+pub enum Rust<'a> {
+    /// The values, and what it writes.
+    Accepts(Values, Written<'a>),
+    Refuses(&'a Refusal),
+    /// It has no form for this input; the refusal is computed by 01's rule.
+    Lacks(MatError),
+}
+
+/// A question to both sides.
+pub struct Case<'a> {
+    pub kind: Kind,
+    /// Limits that the Rust lacks.
+    pub limits: &'a [Limit],
+    /// Smaller inputs are shown rather than larger ones.
+    pub size: usize,
+    pub show: &'a dyn Fn() -> String,
+}
+
+/// How the two sides agree.
+enum Agreement {
+    Accepted,
+    Refused(MatError),
+    Explained(Rule),
+}
+
+/// A change to the library's answers, which the comparison must report.
+#[derive(Debug, Clone, Copy, PartialEq, Eq)]
+pub enum Fault {
+    /// A value of an accepted answer is one more.
+    Value,
+    /// The first written element is another one.
+    Written,
+    /// The last lent element is written to: a part that must be kept, except
+    /// where the buffer is exactly full.
+    Kept,
+    /// An accepted call is refused.
+    Refuses,
+    /// A refused call is accepted.
+    Accepts,
+    /// A refused call gives another number.
+    Number,
+    /// A refused call gives another place to the cell than the safe call.
+    PlaceCell,
+    /// A call writes a cell that it must keep.
+    KeptCell,
+}
+
+impl Fault {
+    /// All of them.
+    pub const ALL: [Self; 8] = [
+        Self::Value,
+        Self::Written,
+        Self::Kept,
+        Self::Refuses,
+        Self::Accepts,
+        Self::Number,
+        Self::PlaceCell,
+        Self::KeptCell,
+    ];
+
+    /// Puts the fault into a reply or its buffers; false if it has no place
+    /// there.
+    fn put(self, reply: &mut Reply, room: Room<'_>) -> bool {
+        let accepted = reply.answer.is_ok();
+        match (self, &mut reply.answer) {
+            (Self::Value, Ok(values)) => {
+                values[0] = values[0].wrapping_add(1);
+                reply.cells.values[0] = values[0];
+            }
+            (Self::Written, Ok(_)) => return change(room, |len| (len > 0).then_some(0)),
+            (Self::Kept, _) => return change(room, |len| len.checked_sub(1)),
+            (Self::Refuses, answer @ Ok(_)) => *answer = Err(MatError::NotCanonical(0)),
+            (Self::Accepts, answer @ Err(_)) => *answer = Ok([0; 13]),
+            (Self::Number, answer @ Err(_)) => *answer = Err(MatError::NotCanonical(0)),
+            (Self::PlaceCell, Err(_)) => reply.cells.place ^= 1,
+            (Self::KeptCell, _) if accepted => reply.cells.place = 0,
+            (Self::KeptCell, _) => reply.cells.values[0] = 0,
+            _ => return false,
+        }
+        if matches!(self, Self::Refuses | Self::Accepts | Self::Number) {
+            reply.cells = Cells::for_answer(&reply.answer);
+        }
+        true
+    }
+}
+
+/// Changes one element of the first buffer that has the chosen one.
+fn change(room: Room<'_>, choose: impl Fn(usize) -> Option<usize>) -> bool {
+    if let Some(i) = choose(room.text.len()) {
+        room.text[i] ^= 1;
+    } else if let Some(i) = choose(room.words.len()) {
+        room.words[i] ^= 1;
+    } else if let Some(i) = choose(room.rows.len()) {
+        room.rows[i].value ^= 1;
+    } else {
+        return false;
+    }
+    true
+}
+
+/// Elements lent beyond an answer.
+const SPARE: usize = 3;
+
+/// What is lent where the Rust refuses.
+const REFUSED: Lengths = Lengths {
+    text: 40,
+    words: 10,
+    rows: 4,
+};
+
+/// Compares case after case, over the same buffers.
+#[derive(Default)]
+pub struct Judge {
+    pub tally: Tally,
+    lent: Lent,
+    fault: Option<Fault>,
+    /// Whether the fault was put into the case at hand.
+    faulted: bool,
+}
+
+impl Judge {
+    /// One that puts a fault into every answer where it has a place.
+    pub fn with_fault(fault: Fault) -> Self {
+        Self {
+            fault: Some(fault),
+            ..Self::default()
+        }
+    }
+
+    /// Holds the library's answers to the Rust's, and counts.
+    pub fn hold(
+        &mut self,
+        case: &Case<'_>,
+        rust: Rust<'_>,
+        mut call: impl FnMut(Room<'_>) -> Reply,
+    ) {
+        self.faulted = false;
+        let verdict = self.compare(case, &rust, &mut call);
+        let count = self.tally.counts.entry(case.kind).or_default();
+        count.cases += 1;
+        count.faults += u64::from(self.faulted);
+        let &Case {
+            kind, size, show, ..
+        } = case;
+        match verdict {
+            Ok(Agreement::Accepted) => count.accepted += 1,
+            Ok(Agreement::Refused(error)) => count.refused[error.number() as usize] += 1,
+            Ok(Agreement::Explained(rule)) => self.tally.explain(kind, rule, size, show),
+            Err(what) => {
+                let show = || format!("{}: {what}", show());
+                self.tally.report(kind, size, show);
+            }
+        }
+    }
+
+    /// How the two sides agree, or what is different.
+    fn compare(
+        &mut self,
+        case: &Case<'_>,
+        rust: &Rust<'_>,
+        call: &mut impl FnMut(Room<'_>) -> Reply,
+    ) -> Result<Agreement, String> {
+        match *rust {
+            Rust::Accepts(values, written) => self.accepted(case, values, written, call),
+            Rust::Refuses(refusal) => {
+                let error = self
+                    .refused(call)
+                    .map_err(|what| format!("{what}; {refusal}"))?;
+                agreed(case, refusal, error).ok_or_else(|| format!("{error}; {refusal}"))
+            }
+            Rust::Lacks(expected) => {
+                let error = self.refused(call)?;
+                let rule = rules::lacking(expected, error);
+                let differs = || format!("{error}; the rule gives {expected}");
+                rule.map(Agreement::Explained).ok_or_else(differs)
+            }
+        }
+    }
+
+    /// What the Rust accepts: with room to spare, exactly full, and each buffer
+    /// one short.
+    fn accepted(
+        &mut self,
+        case: &Case<'_>,
+        values: Values,
+        written: Written<'_>,
+        call: &mut impl FnMut(Room<'_>) -> Reply,
+    ) -> Result<Agreement, String> {
+        let need = written.need();
+        let spare = Lengths {
+            text: need.text + SPARE,
+            words: need.words + SPARE,
+            rows: need.rows + SPARE,
+        };
+        let accepts = |answer| match answer {
+            Ok(given) if given == values => Ok(()),
+            given => Err(format!("{given:?}; the Rust gives {values:?}")),
+        };
+        let first = self.call(spare, written, call)?;
+        if let Err(error) = first
+            && let Some(rule) = rules::limit(case.limits, error)
+        {
+            return Ok(Agreement::Explained(rule));
+        }
+        accepts(first)?;
+        if need != NOTHING {
+            accepts(self.call(need, written, call)?)?;
+            for (short, needed) in one_short(need) {
+                let answer = self.call(short, written, call)?;
+                if answer != Err(MatError::OutputTooShort(needed as u64)) {
+                    return Err(format!("{answer:?} in {short:?}; {needed} are needed"));
+                }
+            }
+        }
+        Ok(Agreement::Accepted)
+    }
+
+    /// The library's refusal.
+    fn refused(&mut self, call: &mut impl FnMut(Room<'_>) -> Reply) -> Result<MatError, String> {
+        match self.call(REFUSED, Written::default(), call)? {
+            Ok(values) => Err(format!("accepted with {values:?}")),
+            Err(error) => Ok(error),
+        }
+    }
+
+    /// One call on buffers of these lengths. Its cells must agree with its
+    /// answer, and its buffers hold `written` if it is accepted, else what they
+    /// held.
+    fn call(
+        &mut self,
+        lengths: Lengths,
+        written: Written<'_>,
+        call: &mut impl FnMut(Room<'_>) -> Reply,
+    ) -> Result<Result<Values, MatError>, String> {
+        let mut reply = call(self.lent.lend(lengths));
+        self.tally.calls += 2;
+        if let Some(fault) = self.fault {
+            self.faulted |= fault.put(&mut reply, self.lent.lend(lengths));
+        }
+        let expected = match reply.answer {
+            Ok(_) => written,
+            Err(_) => Written::default(),
+        };
+        let held = self.lent.holds(expected, lengths);
+        let Reply { answer, cells } = reply;
+        if !held {
+            return Err(format!("the buffers do not hold what {answer:?} says"));
+        }
+        if cells != Cells::for_answer(&answer) {
+            return Err(format!("{cells:?} beside {answer:?} (kept: {KEPT})"));
+        }
+        Ok(answer)
+    }
+}
+
+const NOTHING: Lengths = Lengths {
+    text: 0,
+    words: 0,
+    rows: 0,
+};
+
+/// Each buffer that something is written to, one short, with what it needs.
+fn one_short(need: Lengths) -> impl Iterator<Item = (Lengths, usize)> {
+    let less = |n: usize| n.checked_sub(1);
+    let text = less(need.text).map(|text| (Lengths { text, ..need }, need.text));
+    let words = less(need.words).map(|words| (Lengths { words, ..need }, need.words));
+    let rows = less(need.rows).map(|rows| (Lengths { rows, ..need }, need.rows));
+    [text, words, rows].into_iter().flatten()
+}
+
+/// How a refusal of the Rust agrees with one of the library.
+fn agreed(case: &Case<'_>, refusal: &Refusal, error: MatError) -> Option<Agreement> {
+    let explained = match refusal {
+        Refusal::No(message) if rules::same_reason(message, error) => {
+            return Some(Agreement::Refused(error));
+        }
+        Refusal::No(message) => {
+            rules::class_test(message, error).or_else(|| rules::limit(case.limits, error))
+        }
+        Refusal::Stopped(reason) => rules::stop(reason, error),
+    };
+    explained.map(Agreement::Explained)
+}

@@ -1,0 +1,545 @@
+//! One comparison for each call: what the Rust answers, in the library's form.
+
+use std::fmt::LowerHex;
+use std::panic::{AssertUnwindSafe, catch_unwind};
+
+use mcos::{MatError, Property};
+use oracle::{Answer, Cell, Refusal};
+
+use crate::generate::stores::Store;
+use crate::judge::{Case, Judge, Rust};
+use crate::lent::{Room, Written};
+use crate::library::{self, Array, Reply, values};
+use crate::rules::Limit;
+use crate::tally::Kind;
+
+/// The Rust's answer. A panic is a stop that no rule explains.
+fn asked<T>(call: impl FnOnce() -> Answer<T>) -> Answer<T> {
+    catch_unwind(AssertUnwindSafe(call)).unwrap_or(Err(Refusal::Stopped("the Rust panicked")))
+}
+
+/// A text that the Rust gives.
+fn text_of(answer: &Answer<String>) -> Rust<'_> {
+    match answer {
+        Ok(text) => {
+            let text = text.as_bytes();
+            let written = Written {
+                text,
+                ..Written::default()
+            };
+            Rust::Accepts(values([text.len() as u64]), written)
+        }
+        Err(refusal) => Rust::Refuses(refusal),
+    }
+}
+
+/// Strings that the Rust gives, as one text with spans.
+struct Strings {
+    text: String,
+    spans: Vec<u64>,
+}
+
+impl Strings {
+    fn new(strings: Vec<String>) -> Self {
+        let (mut text, mut spans) = (String::new(), Vec::with_capacity(2 * strings.len()));
+        for string in strings {
+            spans.extend([text.len() as u64, string.len() as u64]);
+            text.push_str(&string);
+        }
+        Self { text, spans }
+    }
+
+    fn accepted(&self) -> Rust<'_> {
+        let (text, words) = (self.text.as_bytes(), &self.spans[..]);
+        let written = Written {
+            text,
+            words,
+            ..Written::default()
+        };
+        Rust::Accepts(values([text.len() as u64, words.len() as u64 / 2]), written)
+    }
+}
+
+fn strings_of(answer: &Answer<Strings>) -> Rust<'_> {
+    match answer {
+        Ok(strings) => strings.accepted(),
+        Err(refusal) => Rust::Refuses(refusal),
+    }
+}
+
+/// `decode_utf16`.
+pub fn utf16(judge: &mut Judge, units: &[u16]) {
+    let answer = asked(|| oracle::decode_utf16(units));
+    let case = Case {
+        kind: Kind::Utf16,
+        limits: &[],
+        size: units.len(),
+        show: &|| format!("units {}", hex_words(units)),
+    };
+    judge.hold(&case, text_of(&answer), |room| {
+        library::decode_utf16(units, room)
+    });
+}
+
+/// `String::from_utf8_lossy`. It does not tell the replaced parts; the standard
+/// library's chunks do.
+pub fn lossy(judge: &mut Judge, bytes: &[u8]) {
+    let text = oracle::from_utf8_lossy(bytes);
+    let ill_formed = |chunk: &std::str::Utf8Chunk<'_>| !chunk.invalid().is_empty();
+    let replaced = bytes.utf8_chunks().filter(ill_formed).count();
+    let written = Written {
+        text: text.as_bytes(),
+        ..Written::default()
+    };
+    let case = Case {
+        kind: Kind::Lossy,
+        limits: &[],
+        size: bytes.len(),
+        show: &|| format!("bytes {}", hex(bytes)),
+    };
+    let rust = Rust::Accepts(values([text.len() as u64, replaced as u64]), written);
+    judge.hold(&case, rust, |room| library::write_lossy(bytes, room));
+}
+
+/// `create_string_object_metadata`.
+pub fn object_metadata(judge: &mut Judge, id: u32) {
+    let [a, b, c, d, e, f] = oracle::string_object_metadata(id).map(u64::from);
+    let packed = values([a | b << 32, c | d << 32, e | f << 32]);
+    let case = Case {
+        kind: Kind::ObjectMetadata,
+        limits: &[],
+        size: id as usize,
+        show: &|| format!("id {id}"),
+    };
+    let rust = Rust::Accepts(packed, Written::default());
+    judge.hold(&case, rust, |_| library::create_string_object_metadata(id));
+}
+
+/// `build_string_filewrapper_metadata`.
+pub fn build(judge: &mut Judge, objects: u64) {
+    let n = objects as usize;
+    let answer = asked(|| oracle::build_metadata(n));
+    let rust = match &answer {
+        Ok(blob) => {
+            let written = Written {
+                text: blob,
+                ..Written::default()
+            };
+            Rust::Accepts(values([blob.len() as u64]), written)
+        }
+        Err(refusal) => Rust::Refuses(refusal),
+    };
+    let case = Case {
+        kind: Kind::Build,
+        limits: &[Limit::objects(n)],
+        size: n,
+        show: &|| format!("objects {objects}"),
+    };
+    judge.hold(&case, rust, |room| {
+        library::build_string_filewrapper_metadata(objects, room)
+    });
+}
+
+/// Measuring and writing a payload.
+pub fn write(judge: &mut Judge, array: &Array) {
+    let Array { dims, text, spans } = array;
+    let show = || {
+        format!(
+            "dims {}, text {}, spans {}",
+            hex_words(dims),
+            hex(text),
+            hex_words(spans)
+        )
+    };
+    let size = dims.len() + text.len() + spans.len();
+    let dims: Vec<usize> = dims.iter().map(|&dim| dim as usize).collect();
+    let answer =
+        cut_text(text, spans).map(|strings| asked(|| oracle::encode_payload(&strings, &dims)));
+    let mut limits = [Limit::written(0)];
+    let (measured, written) = match &answer {
+        Ok(Ok(words)) => {
+            limits = [Limit::written(words.len())];
+            let length = values([words.len() as u64]);
+            let written = Written {
+                words,
+                ..Written::default()
+            };
+            (
+                Rust::Accepts(length, Written::default()),
+                Rust::Accepts(length, written),
+            )
+        }
+        Ok(Err(refusal)) => (Rust::Refuses(refusal), Rust::Refuses(refusal)),
+        &Err(error) => (Rust::Lacks(error), Rust::Lacks(error)),
+    };
+    let case = |kind| Case {
+        kind,
+        limits: &limits,
+        size,
+        show: &show,
+    };
+    judge.hold(&case(Kind::Measure), measured, |_| {
+        library::measure_payload(array)
+    });
+    judge.hold(&case(Kind::Write), written, |room| {
+        library::encode_string_saveobj_payload(array, room)
+    });
+}
+
+/// The strings that the Rust's writer takes, or check 30 by its own rule.
+fn cut_text(text: &[u8], spans: &[u64]) -> Result<Vec<String>, MatError> {
+    let (pairs, []) = spans.as_chunks::<2>() else {
+        return Err(MatError::InvalidText(spans.len() as u64));
+    };
+    let mut last = 0;
+    let mut string = |&[offset, length]: &[u64; 2]| {
+        let end = offset.checked_add(length)?;
+        let part = text.get(offset as usize..end as usize)?;
+        let follows = offset >= std::mem::replace(&mut last, end);
+        follows.then(|| String::from_utf8(part.to_vec()).ok())?
+    };
+    let strings = pairs.iter().enumerate();
+    let numbered = |(i, pair)| string(pair).ok_or(MatError::InvalidText(i as u64));
+    strings.map(numbered).collect()
+}
+
+/// `parse_opaque_metadata`.
+pub fn word_list(judge: &mut Judge, list: &[u32]) {
+    let answer = asked(|| oracle::opaque_metadata(list));
+    let rust = match &answer {
+        Ok(meta) => {
+            // The Rust copies the ids out; they end before the class.
+            let ids = meta.object_ids.len();
+            let first = list.len() - 1 - ids;
+            assert_eq!(meta.object_ids, list[first..list.len() - 1]);
+            let parsed = [first as u64, ids as u64, u64::from(meta.class_id)];
+            Rust::Accepts(values(parsed), Written::default())
+        }
+        Err(refusal) => Rust::Refuses(refusal),
+    };
+    let case = Case {
+        kind: Kind::WordList,
+        limits: &[Limit::list(list.len())],
+        size: list.len(),
+        show: &|| format!("list {}", hex_words(list)),
+    };
+    judge.hold(&case, rust, |_| library::parse_opaque_metadata(list));
+}
+
+/// `decode_string_saveobj`.
+pub fn payload(judge: &mut Judge, payload: &[u64]) {
+    let answer = asked(|| oracle::decode_payload(payload)).map(Strings::new);
+    let case = Case {
+        kind: Kind::Payload,
+        limits: &[Limit::payload(payload.len())],
+        size: payload.len(),
+        show: &|| format!("payload {}", hex_words(payload)),
+    };
+    judge.hold(&case, strings_of(&answer), |room| {
+        library::decode_string_saveobj(payload, room)
+    });
+}
+
+/// Opening a blob, and every query on it.
+pub fn blob(judge: &mut Judge, blob: &[u8]) {
+    let opened = asked(|| oracle::open(blob));
+    open(judge, blob, &opened);
+    match &opened {
+        Ok(store) => {
+            let [names, classes, records, ..] = store.counts();
+            for index in ids(names + 1) {
+                name(judge, blob, index, &asked(|| store.name(index)));
+            }
+            for id in ids(classes) {
+                class(judge, blob, id, &asked(|| store.class_name(id)));
+            }
+            for id in ids(records) {
+                object_class(judge, blob, id, &asked(|| store.class(id)));
+                properties(judge, blob, id, &asked(|| store.properties(id)));
+            }
+        }
+        // Each query puts the checks of opening for itself.
+        Err(refusal) => {
+            let id = 1;
+            name(judge, blob, id, &Err(refusal.clone()));
+            class(judge, blob, id, &Err(refusal.clone()));
+            object_class(judge, blob, id, &Err(refusal.clone()));
+            properties(judge, blob, id, &Err(refusal.clone()));
+        }
+    }
+}
+
+/// The first numbers, those on both sides of `count`, and the last of all.
+fn ids(count: usize) -> impl Iterator<Item = u32> {
+    const FEW: u32 = 6;
+    let count = count as u32;
+    let first = 0..=count.min(FEW);
+    let around = (FEW + 1).max(count.saturating_sub(1))..=count;
+    first.chain(around).chain([u32::MAX])
+}
+
+/// A call of the library over lent buffers.
+type Call<'a> = &'a mut dyn FnMut(Room<'_>) -> Reply;
+
+/// A query on a blob.
+fn query(judge: &mut Judge, kind: Kind, blob: &[u8], id: u32, rust: Rust<'_>, call: Call<'_>) {
+    let case = Case {
+        kind,
+        limits: &[Limit::blob(blob.len())],
+        size: blob.len(),
+        show: &|| format!("blob {}, number {id}", hex(blob)),
+    };
+    judge.hold(&case, rust, call);
+}
+
+/// `FileWrapper::parse`: the counts are the Rust's, the offsets are read here.
+fn open(judge: &mut Judge, blob: &[u8], opened: &Answer<oracle::Store>) {
+    let rust = match opened {
+        Ok(store) => {
+            let mut all = values(store.counts().map(|count| count as u64));
+            let (words, _) = blob[8..40].as_chunks();
+            for (value, &word) in all[5..].iter_mut().zip(words) {
+                *value = u64::from(u32::from_le_bytes(word));
+            }
+            Rust::Accepts(all, Written::default())
+        }
+        Err(refusal) => Rust::Refuses(refusal),
+    };
+    query(judge, Kind::Open, blob, 0, rust, &mut |_| {
+        library::parse(blob)
+    });
+}
+
+fn name(judge: &mut Judge, blob: &[u8], index: u32, answer: &Answer<String>) {
+    query(
+        judge,
+        Kind::Name,
+        blob,
+        index,
+        text_of(answer),
+        &mut |room| library::name(blob, index, room),
+    );
+}
+
+fn class(judge: &mut Judge, blob: &[u8], id: u32, answer: &Answer<String>) {
+    query(judge, Kind::Class, blob, id, text_of(answer), &mut |room| {
+        library::class_name(blob, id, room)
+    });
+}
+
+fn object_class(judge: &mut Judge, blob: &[u8], id: u32, answer: &Answer<String>) {
+    let rust = text_of(answer);
+    query(judge, Kind::ObjectClass, blob, id, rust, &mut |room| {
+        library::object_class_name(blob, id, room)
+    });
+}
+
+/// The properties' rows, then the names that they lead to, then finding.
+fn properties(judge: &mut Judge, blob: &[u8], id: u32, answer: &Answer<Vec<oracle::Property>>) {
+    let rows: Vec<Property> = answer.iter().flatten().map(row).collect();
+    let rust = match answer {
+        Ok(_) => {
+            let written = Written {
+                rows: &rows,
+                ..Written::default()
+            };
+            Rust::Accepts(values([rows.len() as u64]), written)
+        }
+        Err(refusal) => Rust::Refuses(refusal),
+    };
+    query(judge, Kind::Properties, blob, id, rust, &mut |room| {
+        library::properties(blob, id, room)
+    });
+    for property in answer.iter().flatten() {
+        let [index, _, value] = property.row;
+        name(judge, blob, index, &Ok(property.name.clone()));
+        if let Some(text) = &property.value_name {
+            name(judge, blob, value, &Ok(text.clone()));
+        }
+    }
+    find(judge, blob, id, b"any", answer);
+    let last = answer.as_ref().ok().and_then(|props| props.last());
+    let wanted = last.map_or(&b""[..], |property| property.name.as_bytes());
+    find(judge, blob, id, wanted, answer);
+}
+
+fn row(property: &oracle::Property) -> Property {
+    let [name_index, field_type, value] = property.row;
+    Property {
+        name_index,
+        field_type,
+        value,
+    }
+}
+
+/// The Rust has no such call; its callers look through the properties.
+fn find(
+    judge: &mut Judge,
+    blob: &[u8],
+    id: u32,
+    wanted: &[u8],
+    answer: &Answer<Vec<oracle::Property>>,
+) {
+    let rust = match answer {
+        Ok(props) => {
+            let position = props.iter().position(|p| p.name.as_bytes() == wanted);
+            let found = position.map_or(values([0]), |i| values([1, i as u64]));
+            Rust::Accepts(found, Written::default())
+        }
+        Err(refusal) => Rust::Refuses(refusal),
+    };
+    query(judge, Kind::Find, blob, id, rust, &mut |_| {
+        library::find_property(blob, id, wanted)
+    });
+}
+
+/// Both roads on a store: the first with each list, the second with each id.
+pub fn roads(judge: &mut Judge, store: &Store, lists: &[&[u32]], ids: impl Iterator<Item = u32>) {
+    let cells = cut_cells(store);
+    let opened = asked(|| oracle::Store::open(&store.blob, cells.as_deref().unwrap_or_default()));
+    for list in lists {
+        first_road(judge, store, &opened, cells.as_deref().err(), list);
+    }
+    for id in ids {
+        second_road(judge, store, &opened, cells.as_deref().err(), id);
+    }
+}
+
+fn first_road(
+    judge: &mut Judge,
+    store: &Store,
+    opened: &Answer<oracle::Store>,
+    bad: Option<&MatError>,
+    list: &[u32],
+) {
+    let show = || format!("{}, list {}", show_store(store), hex_words(list));
+    let case = Case {
+        kind: Kind::FirstRoad,
+        limits: &[Limit::blob(store.blob.len()), Limit::list(list.len())],
+        size: store_size(store) + list.len(),
+        show: &show,
+    };
+    road(
+        judge,
+        &case,
+        opened,
+        bad,
+        |opened| opened.first_road(list),
+        &mut |room| library::decode_string(&store.blob, store.cells(), list, room),
+    );
+}
+
+fn second_road(
+    judge: &mut Judge,
+    store: &Store,
+    opened: &Answer<oracle::Store>,
+    bad: Option<&MatError>,
+    id: u32,
+) {
+    let case = Case {
+        kind: Kind::SecondRoad,
+        limits: &[Limit::blob(store.blob.len())],
+        size: store_size(store),
+        show: &|| format!("{}, object {id}", show_store(store)),
+    };
+    road(
+        judge,
+        &case,
+        opened,
+        bad,
+        |opened| opened.second_road(id),
+        &mut |room| library::decode_string_object(&store.blob, store.cells(), id, room),
+    );
+}
+
+/// A road: opening, then the directory by its own rule, then the Rust's answer.
+fn road(
+    judge: &mut Judge,
+    case: &Case<'_>,
+    opened: &Answer<oracle::Store>,
+    bad: Option<&MatError>,
+    ask: impl FnOnce(&oracle::Store) -> Answer<Vec<String>>,
+    call: Call<'_>,
+) {
+    match (opened, bad) {
+        (Err(refusal), _) => judge.hold(case, Rust::Refuses(refusal), call),
+        (_, Some(&error)) => judge.hold(case, Rust::Lacks(error), call),
+        (Ok(opened), None) => {
+            let answer = asked(|| ask(opened)).map(Strings::new);
+            judge.hold(case, strings_of(&answer), call);
+        }
+    }
+}
+
+/// The cells that the Rust takes, or check 13 by its own rule.
+fn cut_cells(store: &Store) -> Result<Vec<Cell>, MatError> {
+    let Store {
+        directory,
+        kinds,
+        words,
+        ..
+    } = store;
+    let number = directory.len() as u64;
+    let (pairs, odd) = directory.as_chunks::<2>();
+    if !odd.is_empty() || number > 699_044 || pairs.len() != kinds.len() {
+        return Err(MatError::InvalidDirectory(number));
+    }
+    let mut last = 0;
+    let mut cell = |&[offset, length]: &[u64; 2], kind: u8| {
+        let end = offset.checked_add(length)?;
+        let part = words.get(offset as usize..end as usize)?;
+        let follows = offset >= std::mem::replace(&mut last, end);
+        follows.then(|| match kind {
+            0 => Cell::Words(part.to_vec()),
+            2 => Cell::Group,
+            _ => Cell::Other,
+        })
+    };
+    let cells = pairs.iter().zip(kinds).enumerate();
+    let numbered =
+        |(i, (pair, &kind))| cell(pair, kind).ok_or(MatError::InvalidDirectory(i as u64));
+    cells.map(numbered).collect()
+}
+
+fn store_size(store: &Store) -> usize {
+    store.blob.len() + store.directory.len() + store.kinds.len() + store.words.len()
+}
+
+fn show_store(store: &Store) -> String {
+    let Store {
+        blob,
+        directory,
+        kinds,
+        words,
+    } = store;
+    format!(
+        "blob {}, directory {}, kinds {}, words {}",
+        hex(blob),
+        hex_words(directory),
+        hex(kinds),
+        hex_words(words)
+    )
+}
+
+/// A longer input is shown by its front.
+const SHOWN_BYTES: usize = 288;
+const SHOWN_WORDS: usize = 24;
+
+fn hex(bytes: &[u8]) -> String {
+    shown(bytes, SHOWN_BYTES, "", |byte| format!("{byte:02x}"))
+}
+
+fn hex_words<T: LowerHex>(words: &[T]) -> String {
+    shown(words, SHOWN_WORDS, ",", |word| format!("{word:x}"))
+}
+
+fn shown<T>(items: &[T], most: usize, between: &str, show: impl Fn(&T) -> String) -> String {
+    let len = items.len();
+    let front = if len > most { most / 6 } else { len };
+    let front: Vec<String> = items[..front].iter().map(show).collect();
+    match len {
+        0 => "-".to_owned(),
+        _ if len > most => format!("{}.. ({len} in all)", front.join(between)),
+        _ => front.join(between),
+    }
+}

@@ -1,0 +1,12 @@
+//! Compares the library with the original Rust: inputs, calls and rules.
+//! `compare` runs it; `bench` times both sides on the same inputs.
+
+pub mod generate;
+pub mod judge;
+pub mod kinds;
+pub mod lent;
+pub mod library;
+pub mod rng;
+pub mod rules;
+pub mod run;
+pub mod tally;

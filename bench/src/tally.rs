@@ -1,0 +1,214 @@
+//! Counts of a comparison, and the smallest input of each difference.
+
+use std::collections::BTreeMap;
+use std::fmt;
+
+use crate::rules::Rule;
+
+/// What is compared.
+#[derive(Debug, Clone, Copy, PartialEq, Eq, PartialOrd, Ord)]
+pub enum Kind {
+    Utf16,
+    Lossy,
+    Open,
+    Name,
+    Class,
+    ObjectClass,
+    Properties,
+    Find,
+    WordList,
+    Payload,
+    FirstRoad,
+    SecondRoad,
+    Measure,
+    Write,
+    Build,
+    ObjectMetadata,
+}
+
+impl fmt::Display for Kind {
+    fn fmt(&self, f: &mut fmt::Formatter<'_>) -> fmt::Result {
+        f.pad(match self {
+            Self::Utf16 => "decode_utf16",
+            Self::Lossy => "write_lossy",
+            Self::Open => "FileWrapper::parse",
+            Self::Name => "name",
+            Self::Class => "class_name",
+            Self::ObjectClass => "object_class_name",
+            Self::Properties => "properties",
+            Self::Find => "find_property",
+            Self::WordList => "parse_opaque_metadata",
+            Self::Payload => "decode_string_saveobj",
+            Self::FirstRoad => "decode_string",
+            Self::SecondRoad => "decode_string_object",
+            Self::Measure => "measure_payload",
+            Self::Write => "encode_string_saveobj_payload",
+            Self::Build => "build_string_filewrapper_metadata",
+            Self::ObjectMetadata => "create_string_object_metadata",
+        })
+    }
+}
+
+/// A number of differences, and the smallest input that shows one.
+#[derive(Debug, Clone)]
+pub struct Seen {
+    pub cases: u64,
+    pub size: usize,
+    pub shown: String,
+}
+
+impl Seen {
+    fn none() -> Self {
+        let (cases, size, shown) = (0, usize::MAX, String::new());
+        Self { cases, size, shown }
+    }
+
+    fn add(&mut self, cases: u64, size: usize, show: impl FnOnce() -> String) {
+        self.cases += cases;
+        if size < self.size {
+            (self.size, self.shown) = (size, show());
+        }
+    }
+}
+
+/// The counts of one kind.
+#[derive(Debug, Clone)]
+pub struct Count {
+    pub cases: u64,
+    pub accepted: u64,
+    /// By the number of the check.
+    pub refused: [u64; 35],
+    pub explained: BTreeMap<Rule, Seen>,
+    pub unexplained: Seen,
+    /// Cases that a fault was put into, to see that it is reported.
+    pub faults: u64,
+}
+
+impl Default for Count {
+    fn default() -> Self {
+        Self {
+            cases: 0,
+            accepted: 0,
+            refused: [0; 35],
+            explained: BTreeMap::new(),
+            unexplained: Seen::none(),
+            faults: 0,
+        }
+    }
+}
+
+/// The counts of a run.
+#[derive(Debug, Clone, Default)]
+pub struct Tally {
+    pub counts: BTreeMap<Kind, Count>,
+    /// The library's calls, safe and in C.
+    pub calls: u64,
+}
+
+impl Tally {
+    /// All cases.
+    pub fn cases(&self) -> u64 {
+        self.counts.values().map(|count| count.cases).sum()
+    }
+
+    /// All differences that no rule explains.
+    pub fn unexplained(&self) -> u64 {
+        let unexplained = |count: &Count| count.unexplained.cases;
+        self.counts.values().map(unexplained).sum()
+    }
+
+    pub fn explain(&mut self, kind: Kind, rule: Rule, size: usize, show: impl FnOnce() -> String) {
+        let explained = &mut self.counts.entry(kind).or_default().explained;
+        let seen = explained.entry(rule).or_insert_with(Seen::none);
+        seen.add(1, size, show);
+    }
+
+    pub fn report(&mut self, kind: Kind, size: usize, show: impl FnOnce() -> String) {
+        let count = self.counts.entry(kind).or_default();
+        count.unexplained.add(1, size, show);
+    }
+
+    /// Takes in the counts of another run.
+    pub fn merge(&mut self, other: Self) {
+        self.calls += other.calls;
+        for (kind, count) in other.counts {
+            let mine = self.counts.entry(kind).or_default();
+            mine.cases += count.cases;
+            mine.accepted += count.accepted;
+            add(&mut mine.refused, count.refused);
+            mine.faults += count.faults;
+            for (rule, seen) in count.explained {
+                let mine = mine.explained.entry(rule).or_insert_with(Seen::none);
+                mine.add(seen.cases, seen.size, || seen.shown);
+            }
+            let seen = count.unexplained;
+            mine.unexplained.add(seen.cases, seen.size, || seen.shown);
+        }
+    }
+}
+
+impl fmt::Display for Tally {
+    fn fmt(&self, f: &mut fmt::Formatter<'_>) -> fmt::Result {
+        writeln!(
+            f,
+            "| call | cases | agreed accepted | agreed refused | explained | unexplained |"
+        )?;
+        writeln!(f, "|---|---:|---:|---:|---:|---:|")?;
+        let mut total = [0; 5];
+        let mut refused = [0; 35];
+        for (kind, count) in &self.counts {
+            let explained = count.explained.values().map(|seen| seen.cases).sum();
+            let row = [
+                count.cases,
+                count.accepted,
+                count.refused.iter().sum(),
+                explained,
+                count.unexplained.cases,
+            ];
+            write_row(f, &kind.to_string(), row)?;
+            add(&mut total, row);
+            add(&mut refused, count.refused);
+        }
+        write_row(f, "total", total)?;
+        let seen = |(number, cases): (usize, &u64)| {
+            let shown = format!("{number}: {cases}");
+            (*cases > 0).then_some(shown)
+        };
+        let seen: Vec<String> = refused.iter().enumerate().filter_map(seen).collect();
+        writeln!(f, "\nAgreed refused, by check: {}", seen.join(", "))?;
+        let differences = |(kind, count): (&Kind, &Count)| {
+            let kind = *kind;
+            let rules = count.explained.clone().into_iter();
+            rules.map(move |(rule, seen)| (rule, kind, seen))
+        };
+        let mut explained: Vec<_> = self.counts.iter().flat_map(differences).collect();
+        explained.sort_by_key(|&(rule, kind, _)| (rule, kind));
+        writeln!(f, "\nExplained, with the smallest input found:")?;
+        for (rule, kind, seen) in explained {
+            let Rule { number, why } = rule;
+            let Seen { cases, shown, .. } = seen;
+            writeln!(f, "- {number}, {why}: {kind}, {cases} cases; {shown}")?;
+        }
+        for (kind, count) in &self.counts {
+            let Seen { cases, shown, .. } = &count.unexplained;
+            if *cases > 0 {
+                writeln!(f, "\nUNEXPLAINED: {kind}, {cases} cases; {shown}")?;
+            }
+        }
+        Ok(())
+    }
+}
+
+fn add<const N: usize>(sum: &mut [u64; N], more: [u64; N]) {
+    for (sum, more) in sum.iter_mut().zip(more) {
+        *sum += more;
+    }
+}
+
+fn write_row(f: &mut fmt::Formatter<'_>, name: &str, row: [u64; 5]) -> fmt::Result {
+    let [cases, accepted, refused, explained, unexplained] = row;
+    writeln!(
+        f,
+        "| {name} | {cases} | {accepted} | {refused} | {explained} | {unexplained} |"
+    )
+}

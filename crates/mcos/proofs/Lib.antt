@@ -1,0 +1,2 @@
+pub mod ExportLaws
+pub mod Passed

@@ -1,0 +1,11 @@
+-- `mcos::mcos_decode_string_object` meets its contract.
+-- Assumes nothing.
+use borrow.Author.Needs.{needs}
+use Rattle.mcos.proofs.ExportLaws.{told-strings}
+use Rattle.mcos.proofs.mcos_decode_string_object.Statement.{statement}
+use Rattle.mcos.proofs.mcos_decode_string_object.Tie as tie
+
+pub mcos-decode-string-object-spec : {M : Type 1} → statement M
+mcos-decode-string-object-spec =
+    tie.close
+    (tie.spec (λ c κs. search needs) (λ c κs. search needs) (λ c. search needs) (λ c. search needs) (λ c. search (told-strings, needs)))

@@ -1,0 +1,442 @@
+// The library's calls for C. Each answers 0 where the call is accepted, else the number of the check that does not hold (document 01's
+// question). An accepted call writes the cells of its values and keeps the cell of the place; a refused one writes the place and nothing else.
+use reader::classes;
+use reader::decode;
+use reader::file_wrapper::FileWrapper;
+use reader::file_wrapper::ParseReply;
+use reader::find;
+use reader::find::FindReply;
+use reader::names;
+use reader::names::NameReply;
+use reader::objects;
+use reader::objects::ObjectRow;
+use reader::objects::ObjectsReply;
+use reader::opaque;
+use reader::opaque::OpaqueReply;
+use reader::properties;
+use reader::properties::PropertiesReply;
+use reader::properties::ROW_WIDTH;
+use reader::saveobj;
+use reader::saveobj::StringsReply;
+use reader::string_objects;
+use text::error::MatError;
+use text::utf8;
+use text::utf8::LossyReply;
+use text::utf16;
+use text::utf16::TextReply;
+use writer::string_object;
+use writer::string_object::LengthReply;
+ghost use mathlib.Core.Path.{_≡_};
+ghost use mathlib.Core.List.{map};
+ghost use Rattle.text.specs.Errors.{failureOf};
+ghost use Rattle.text.specs.Replies.{textReplyOf};
+ghost use Rattle.text.specs.Utf16.{decodeUtf16};
+ghost use Rattle.writer.specs.Array.{encodePayload};
+ghost use Rattle.writer.specs.FileWrapper.{buildMetadata};
+ghost use Rattle.writer.specs.Metadata.{objectMetadata};
+ghost use Rattle.writer.specs.Replies.{lengthReplyOf, measuredPayload};
+ghost use Rattle.reader.specs.Decode.{metadataStrings, objectStrings};
+ghost use Rattle.reader.specs.Objects.{findProperty, objectRows, objectTriples, rowOf};
+ghost use Rattle.reader.specs.Opaque.{opaqueMetadata};
+ghost use Rattle.reader.specs.Opening.{opened};
+ghost use Rattle.reader.specs.Queries.{intoOutput, nameText, classText, objectClassText};
+ghost use Rattle.reader.specs.Replies.{nameReplyOf, objectsReplyOf, propertiesReplyOf};
+ghost use Rattle.reader.specs.Saveobj.{decodePayload, intoStrings};
+ghost use Rattle.reader.specs.SaveobjStages.{stringsReplyOf};
+ghost use Rattle.mcos.specs.Exports.{countCells, layoutOf, opaqueCells, Exports, ExportsFound, ExportsList, ExportsLossy, ExportsStrings};
+
+// Writes the place of a failure and gives its number.
+fn put_error(e: MatError, place: &mut u64) -> u32
+    ensures { λ r. ⌜ r ≡ failureOf e .number ⌝ }
+    ensures { λ _. ⌜ now (place .exit) ≡ failureOf e .place ⌝ }
+{
+    let failure = e.failure();
+    *place = failure.place;
+    failure.number
+}
+
+// Each of these writes what a reply says, its value or its place, and gives its number.
+fn put_length(reply: LengthReply, length: &mut u64, place: &mut u64) -> u32
+    ensures { λ r. ⌜ Exports (λ x. x) (lengthReplyOf reply) (now (length .entry)) (now (place .entry)) r (now (length .exit)) (now (place .exit)) ⌝ }
+{
+    match reply {
+        LengthReply::Length(n) => {
+            *length = n as u64;
+            0
+        }
+        LengthReply::Error(e) => put_error(e, place),
+    }
+}
+
+fn put_text(reply: TextReply, bytes: &mut u64, place: &mut u64) -> u32
+    ensures { λ r. ⌜ Exports (λ x. x) (textReplyOf reply) (now (bytes .entry)) (now (place .entry)) r (now (bytes .exit)) (now (place .exit)) ⌝ }
+{
+    match reply {
+        TextReply::Text(n) => {
+            *bytes = n as u64;
+            0
+        }
+        TextReply::Error(e) => put_error(e, place),
+    }
+}
+
+fn put_name(reply: NameReply, bytes: &mut u64, place: &mut u64) -> u32
+    ensures { λ r. ⌜ Exports (λ x. x) (nameReplyOf reply) (now (bytes .entry)) (now (place .entry)) r (now (bytes .exit)) (now (place .exit)) ⌝ }
+{
+    match reply {
+        NameReply::Text(n) => {
+            *bytes = n as u64;
+            0
+        }
+        NameReply::Error(e) => put_error(e, place),
+    }
+}
+
+fn put_rows(reply: PropertiesReply, count: &mut u64, place: &mut u64) -> u32
+    ensures { λ r. ⌜ Exports (λ x. x) (propertiesReplyOf reply) (now (count .entry)) (now (place .entry)) r (now (count .exit)) (now (place .exit)) ⌝ }
+{
+    match reply {
+        PropertiesReply::Rows(n) => {
+            *count = n as u64;
+            0
+        }
+        PropertiesReply::Error(e) => put_error(e, place),
+    }
+}
+
+fn put_objects(reply: ObjectsReply, count: &mut u64, place: &mut u64) -> u32
+    ensures { λ r. ⌜ Exports (λ x. x) (objectsReplyOf reply) (now (count .entry)) (now (place .entry)) r (now (count .exit)) (now (place .exit)) ⌝ }
+{
+    match reply {
+        ObjectsReply::Objects(n) => {
+            *count = n as u64;
+            0
+        }
+        ObjectsReply::Error(e) => put_error(e, place),
+    }
+}
+
+fn put_strings(reply: StringsReply, bytes: &mut u64, strings: &mut u64, place: &mut u64) -> u32
+    ensures { λ r. ⌜ Exports (λ x. x) (stringsReplyOf reply) (countCells (now (bytes .entry)) (now (strings .entry))) (now (place .entry)) r (countCells (now (bytes .exit)) (now (strings .exit))) (now (place .exit)) ⌝ }
+{
+    match reply {
+        StringsReply::Strings {
+            bytes: b,
+            strings: n,
+        } => {
+            *bytes = b as u64;
+            *strings = n as u64;
+            0
+        }
+        StringsReply::Error(e) => put_error(e, place),
+    }
+}
+
+#[no_mangle]
+pub extern "C" fn mcos_decode_utf16(
+    units: &[u16],
+    text: &mut [u8],
+    bytes: &mut u64,
+    place: &mut u64,
+) -> u32
+    ensures { λ r. ⌜ ExportsList (λ x. x) (decodeUtf16 (now (units .entry))) (now (text .entry)) (now (bytes .entry)) (now (place .entry)) r (now (text .exit)) (now (bytes .exit)) (now (place .exit)) ⌝ }
+{
+    put_text(utf16::decode_utf16(units, text), bytes, place)
+}
+
+#[no_mangle]
+pub extern "C" fn mcos_write_lossy(
+    s: &[u8],
+    out: &mut [u8],
+    bytes: &mut u64,
+    replaced: &mut u64,
+    place: &mut u64,
+) -> u32
+    ensures { λ r. ⌜ ExportsLossy (now (s .entry)) (now (out .entry)) (now (bytes .entry)) (now (replaced .entry)) (now (place .entry)) r (now (out .exit)) (now (bytes .exit)) (now (replaced .exit)) (now (place .exit)) ⌝ }
+{
+    match utf8::write_lossy(s, out) {
+        LossyReply::Written {
+            bytes: b,
+            replaced: n,
+        } => {
+            *bytes = b as u64;
+            *replaced = n as u64;
+            0
+        }
+        LossyReply::TooShort(need) => {
+            *place = need as u64;
+            34
+        }
+    }
+}
+
+#[no_mangle]
+pub extern "C" fn mcos_create_string_object_metadata(object_id: u32, metadata: &mut [u32; 6])
+    ensures { λ _. ⌜ now (metadata .exit) ≡ objectMetadata «object_id» ⌝ }
+{
+    *metadata = string_object::create_string_object_metadata(object_id);
+}
+
+#[no_mangle]
+pub extern "C" fn mcos_measure_payload(
+    dims: &[u64],
+    text: &[u8],
+    spans: &[u64],
+    length: &mut u64,
+    place: &mut u64,
+) -> u32
+    ensures { λ r. ⌜ Exports (λ x. x) (measuredPayload (now (dims .entry)) (now (text .entry)) (now (spans .entry))) (now (length .entry)) (now (place .entry)) r (now (length .exit)) (now (place .exit)) ⌝ }
+{
+    put_length(
+        string_object::measure_payload(dims, text, spans),
+        length,
+        place,
+    )
+}
+
+#[no_mangle]
+pub extern "C" fn mcos_encode_string_saveobj_payload(
+    dims: &[u64],
+    text: &[u8],
+    spans: &[u64],
+    words: &mut [u64],
+    length: &mut u64,
+    place: &mut u64,
+) -> u32
+    ensures { λ r. ⌜ ExportsList (λ x. x) (encodePayload (now (dims .entry)) (now (text .entry)) (now (spans .entry))) (now (words .entry)) (now (length .entry)) (now (place .entry)) r (now (words .exit)) (now (length .exit)) (now (place .exit)) ⌝ }
+{
+    put_length(
+        string_object::encode_string_saveobj_payload(dims, text, spans, words),
+        length,
+        place,
+    )
+}
+
+#[no_mangle]
+pub extern "C" fn mcos_build_string_filewrapper_metadata(
+    object_count: u64,
+    blob: &mut [u8],
+    length: &mut u64,
+    place: &mut u64,
+) -> u32
+    ensures { λ r. ⌜ ExportsList (λ x. x) (buildMetadata «object_count») (now (blob .entry)) (now (length .entry)) (now (place .entry)) r (now (blob .exit)) (now (length .exit)) (now (place .exit)) ⌝ }
+{
+    put_length(
+        string_object::build_string_filewrapper_metadata(object_count, blob),
+        length,
+        place,
+    )
+}
+
+// The numbers of an opened blob: names, classes, records, the blocks of both regions, the eight offsets.
+fn layout_of(w: FileWrapper) -> [u64; 13]
+    ensures { λ r. ⌜ r ≡ layoutOf w ⌝ }
+{
+    [
+        w.names as u64,
+        w.classes as u64,
+        w.records as u64,
+        w.saveobj_blocks as u64,
+        w.normalobj_blocks as u64,
+        w.offsets.o0 as u64,
+        w.offsets.o1 as u64,
+        w.offsets.o2 as u64,
+        w.offsets.o3 as u64,
+        w.offsets.o4 as u64,
+        w.offsets.o5 as u64,
+        w.offsets.o6 as u64,
+        w.offsets.o7 as u64,
+    ]
+}
+
+#[no_mangle]
+pub extern "C" fn mcos_parse(blob: &[u8], layout: &mut [u64; 13], place: &mut u64) -> u32
+    ensures { λ r. ⌜ Exports layoutOf (opened (now (blob .entry))) (now (layout .entry)) (now (place .entry)) r (now (layout .exit)) (now (place .exit)) ⌝ }
+{
+    match FileWrapper::parse(blob) {
+        ParseReply::Parsed(w) => {
+            *layout = layout_of(w);
+            0
+        }
+        ParseReply::Error(e) => put_error(e, place),
+    }
+}
+
+#[no_mangle]
+pub extern "C" fn mcos_name(
+    blob: &[u8],
+    index: u32,
+    text: &mut [u8],
+    bytes: &mut u64,
+    place: &mut u64,
+) -> u32
+    ensures { λ r. ⌜ ExportsList (λ x. x) (intoOutput (nameText (now (blob .entry)) index)) (now (text .entry)) (now (bytes .entry)) (now (place .entry)) r (now (text .exit)) (now (bytes .exit)) (now (place .exit)) ⌝ }
+{
+    put_name(names::name(blob, index, text), bytes, place)
+}
+
+#[no_mangle]
+pub extern "C" fn mcos_class_name(
+    blob: &[u8],
+    class_id: u32,
+    text: &mut [u8],
+    bytes: &mut u64,
+    place: &mut u64,
+) -> u32
+    ensures { λ r. ⌜ ExportsList (λ x. x) (intoOutput (classText (now (blob .entry)) «class_id»)) (now (text .entry)) (now (bytes .entry)) (now (place .entry)) r (now (text .exit)) (now (bytes .exit)) (now (place .exit)) ⌝ }
+{
+    put_name(classes::class_name(blob, class_id, text), bytes, place)
+}
+
+#[no_mangle]
+pub extern "C" fn mcos_object_class_name(
+    blob: &[u8],
+    object_id: u32,
+    text: &mut [u8],
+    bytes: &mut u64,
+    place: &mut u64,
+) -> u32
+    ensures { λ r. ⌜ ExportsList (λ x. x) (intoOutput (objectClassText (now (blob .entry)) «object_id»)) (now (text .entry)) (now (bytes .entry)) (now (place .entry)) r (now (text .exit)) (now (bytes .exit)) (now (place .exit)) ⌝ }
+{
+    put_name(
+        classes::object_class_name(blob, object_id, text),
+        bytes,
+        place,
+    )
+}
+
+#[no_mangle]
+pub extern "C" fn mcos_properties(
+    blob: &[u8],
+    object_id: u32,
+    rows: &mut [[u32; ROW_WIDTH]],
+    count: &mut u64,
+    place: &mut u64,
+) -> u32
+    ensures { λ r. ⌜ ExportsList (map rowOf) (intoOutput (objectTriples (now (blob .entry)) «object_id»)) (now (rows .entry)) (now (count .entry)) (now (place .entry)) r (now (rows .exit)) (now (count .exit)) (now (place .exit)) ⌝ }
+{
+    put_rows(properties::properties(blob, object_id, rows), count, place)
+}
+
+#[no_mangle]
+pub extern "C" fn mcos_find_property(
+    blob: &[u8],
+    object_id: u32,
+    wanted: &[u8],
+    found: &mut u32,
+    position: &mut u64,
+    place: &mut u64,
+) -> u32
+    ensures { λ r. ⌜ ExportsFound (findProperty (now (blob .entry)) «object_id» (now (wanted .entry))) (now (found .entry)) (now (position .entry)) (now (place .entry)) r (now (found .exit)) (now (position .exit)) (now (place .exit)) ⌝ }
+{
+    match find::find_property(blob, object_id, wanted) {
+        FindReply::Found(i) => {
+            *found = 1;
+            *position = i as u64;
+            0
+        }
+        FindReply::NotFound => {
+            *found = 0;
+            0
+        }
+        FindReply::Error(e) => put_error(e, place),
+    }
+}
+
+#[no_mangle]
+pub extern "C" fn mcos_list_objects(
+    blob: &[u8],
+    rows: &mut [ObjectRow],
+    count: &mut u64,
+    place: &mut u64,
+) -> u32
+    ensures { λ r. ⌜ ExportsList (λ x. x) (intoOutput (objectRows (now (blob .entry)))) (now (rows .entry)) (now (count .entry)) (now (place .entry)) r (now (rows .exit)) (now (count .exit)) (now (place .exit)) ⌝ }
+{
+    put_objects(objects::list_objects(blob, rows), count, place)
+}
+
+#[no_mangle]
+pub extern "C" fn mcos_parse_opaque_metadata(
+    metadata: &[u32],
+    first_id: &mut u64,
+    ids: &mut u64,
+    class_id: &mut u32,
+    place: &mut u64,
+) -> u32
+    ensures { λ r. ⌜ Exports (λ x. x) (opaqueMetadata (now (metadata .entry))) (opaqueCells (now («first_id» .entry)) (now (ids .entry)) (now («class_id» .entry))) (now (place .entry)) r (opaqueCells (now («first_id» .exit)) (now (ids .exit)) (now («class_id» .exit))) (now (place .exit)) ⌝ }
+{
+    match opaque::parse_opaque_metadata(metadata) {
+        OpaqueReply::Parsed(m) => {
+            *first_id = m.first_id as u64;
+            *ids = m.ids as u64;
+            *class_id = m.class_id;
+            0
+        }
+        OpaqueReply::Error(e) => put_error(e, place),
+    }
+}
+
+#[no_mangle]
+pub extern "C" fn mcos_decode_string_saveobj(
+    payload: &[u64],
+    text: &mut [u8],
+    spans: &mut [u64],
+    bytes: &mut u64,
+    strings: &mut u64,
+    place: &mut u64,
+) -> u32
+    ensures { λ r. ⌜ ExportsStrings (intoStrings (decodePayload (now (payload .entry)))) (now (text .entry)) (now (spans .entry)) (countCells (now (bytes .entry)) (now (strings .entry))) (now (place .entry)) r (now (text .exit)) (now (spans .exit)) (countCells (now (bytes .exit)) (now (strings .exit))) (now (place .exit)) ⌝ }
+{
+    put_strings(
+        saveobj::decode_string_saveobj(payload, text, spans),
+        bytes,
+        strings,
+        place,
+    )
+}
+
+#[no_mangle]
+pub extern "C" fn mcos_decode_string(
+    blob: &[u8],
+    directory: &[u64],
+    kinds: &[u8],
+    words: &[u64],
+    metadata: &[u32],
+    text: &mut [u8],
+    spans: &mut [u64],
+    bytes: &mut u64,
+    strings: &mut u64,
+    place: &mut u64,
+) -> u32
+    ensures { λ r. ⌜ ExportsStrings (intoStrings (metadataStrings (now (blob .entry)) (now (directory .entry)) (now (kinds .entry)) (now (words .entry)) (now (metadata .entry)))) (now (text .entry)) (now (spans .entry)) (countCells (now (bytes .entry)) (now (strings .entry))) (now (place .entry)) r (now (text .exit)) (now (spans .exit)) (countCells (now (bytes .exit)) (now (strings .exit))) (now (place .exit)) ⌝ }
+{
+    put_strings(
+        decode::decode_string(blob, directory, kinds, words, metadata, text, spans),
+        bytes,
+        strings,
+        place,
+    )
+}
+
+#[no_mangle]
+pub extern "C" fn mcos_decode_string_object(
+    blob: &[u8],
+    directory: &[u64],
+    kinds: &[u8],
+    words: &[u64],
+    object_id: u32,
+    text: &mut [u8],
+    spans: &mut [u64],
+    bytes: &mut u64,
+    strings: &mut u64,
+    place: &mut u64,
+) -> u32
+    ensures { λ r. ⌜ ExportsStrings (intoStrings (objectStrings (now (blob .entry)) (now (directory .entry)) (now (kinds .entry)) (now (words .entry)) «object_id»)) (now (text .entry)) (now (spans .entry)) (countCells (now (bytes .entry)) (now (strings .entry))) (now (place .entry)) r (now (text .exit)) (now (spans .exit)) (countCells (now (bytes .exit)) (now (strings .exit))) (now (place .exit)) ⌝ }
+{
+    put_strings(
+        string_objects::decode_string_object(blob, directory, kinds, words, object_id, text, spans),
+        bytes,
+        strings,
+        place,
+    )
+}
