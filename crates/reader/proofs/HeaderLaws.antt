@@ -6,7 +6,7 @@ use mathlib.Core.Bool.{Bool, true, false, not}
 use mathlib.Core.List.{List}
 use native.Mathlib.Numerals.{add-one}
 use native.Mathlib.Omega.{arith}
-use borrow.Author.Tests.{leb-true, ltb-true, ltb-false, le-leb, lt-leb, eq-eqb, ne-eqb, not-true, not-false}
+use borrow.Author.Tests.{leb-true, ltb-true, ltb-false, eqb-true, le-leb, lt-leb, eq-eqb, ne-eqb, not-true, not-false}
 use lib.Dec.{leb, ltb, eqb}
 use lib.ListN.{length, getD}
 use Rattle.text.specs.Errors.{failureOf}
@@ -123,6 +123,9 @@ pub ruleset header-outcomes = (header-version, header-dims, header-product, head
 -- ---- a header that passed
 
 pub record HeaderPassed (payload : List ℕ) (base n : ℕ) : Type 0 where
+  pub version : getD payload 0 0 ≡ 1
+  pub start : base ≡ 2 + dimCount payload
+  pub product : checkDims payload (dimCount payload) ≡ ok n
   pub inside : base + n ≤ length payload
   pub most : length payload ≤ 2097152
 
@@ -138,6 +141,9 @@ header-passed payload {h} e =
     let z : _≡_ {A = Header} (record { base = 2 + dimCount payload; strings = product .0 }) h = cc in
     rw (sym z)
     (record {
+      version = eqb-true (getD payload 0 0) 1 (version .0);
+      start = refl;
+      product = product .1 .0;
       inside = leb-true (2 + dimCount payload + product .0) (length payload) (lengths .0);
       most = within-is 2 2097152 (length payload) (size .0) .1;
     })

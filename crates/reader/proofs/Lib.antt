@@ -2,6 +2,7 @@ pub mod BlockLaws
 pub mod BothLaws
 pub mod BuiltLaws
 pub mod CanonicalLaws
+pub mod CanonicalPayloadLaws
 pub mod CellLaws
 pub mod ClassLaws
 pub mod DecodeStringLaws

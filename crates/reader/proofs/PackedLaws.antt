@@ -1,11 +1,13 @@
--- Code units that writing packed into words are read back, whatever words stand before and after.
+-- Code units that writing packed into words are read back, whatever words stand before and after; and words that hold nothing but units are what
+-- packing these gives.
 -- Assumes nothing.
 use mathlib.Core.Path.{_≡_, refl, _∙_, ap, ap₂}
 use mathlib.Core.List.{List, [], _∷_, _++_}
 use Prim.Native.Nat.{ℕ, zero, suc, _+_, _*_, _/_, _%_, _^_, _≤_, _<_}
+use native.Mathlib.Nat.{zero-add}
 use native.Mathlib.Omega.{arith}
 use lib.ListN.{length, getD, take, drop, length-append}
-use lib.Seq.{getD-append-add, drop-cons, take-at, drop-at}
+use lib.Seq.{getD-append-add, getD-drop, drop-cons, take-at, drop-at}
 use Rattle.text.specs.Unicode.{Below}
 use Rattle.writer.specs.Words.{value, packed}
 use Rattle.reader.specs.Units.{unitAt, unitsIn}
@@ -52,3 +54,63 @@ part-within p before us after x b =
     units-within p (before ++ (us ++ after)) x b (length us) (length before) (omega (arith, length-append before (us ++ after), length-append us after))
     ∙ ap (take (length us)) (drop-at before (us ++ after) (length before) refl)
     ∙ take-at us after (length us) refl
+
+-- ---- words that hold nothing but units
+
+-- the words after the first hold the units after the fourth
+units-later : (x : ℕ) (w : List ℕ) (k n : ℕ) → unitsIn (x ∷ w) 0 (suc (suc (suc (suc k)))) n ≡ unitsIn w 0 k n
+unfolding unitsIn unitAt
+units-later x w k zero = refl
+units-later x w k (suc n) =
+    let i : 0 + suc (suc (suc (suc k))) / 4 ≡ suc (0 + k / 4) = omega arith in
+    let j : suc (suc (suc (suc k))) % 4 ≡ k % 4 = omega arith in
+    rw (i, j) (ap (λ (us : List ℕ). unitAt w 0 k ∷ us) (units-later x w (suc k) n))
+
+pub units-drop : (w : List ℕ) (first k n : ℕ) → unitsIn w first k n ≡ unitsIn (drop first w) 0 k n
+unfolding unitsIn unitAt
+units-drop w first k zero = refl
+units-drop w first k (suc n) =
+    let z : 0 + k / 4 ≡ k / 4 = omega arith in
+    rw (z, getD-drop first w (k / 4) 0) (ap (λ (us : List ℕ). unitAt w first k ∷ us) (units-drop w first (suc k) n))
+
+pub units-append : (w : List ℕ) (first k a b : ℕ) → unitsIn w first k (a + b) ≡ unitsIn w first k a ++ unitsIn w first (k + a) b
+unfolding unitsIn
+units-append w first k zero b =
+    let z : k + 0 ≡ k = omega arith in
+    rw (z, zero-add b)
+units-append w first k (suc a) b =
+    let s : suc a + b ≡ suc (a + b) = omega arith in
+    let t : k + suc a ≡ suc k + a = omega arith in
+    rw (s, t) (ap (λ (us : List ℕ). unitAt w first k ∷ us) (units-append w first (suc k) a b))
+
+-- words that n units fill, with zeros after the last one, are what packing these units gives
+pub repacked : (w : List ℕ) (n : ℕ) → ((i : ℕ) → getD w i 0 < 2 ^ 64) → length w ≡ (n + 3) / 4 → getD w (n / 4) 0 / 2 ^ (16 * (n % 4)) ≡ 0 → packed (unitsIn w 0 0 n) ≡ w
+unfolding packed value unitsIn unitAt
+repacked [] zero b l z = refl
+repacked [] (suc n) b l z = absurd (omega arith)
+repacked (x ∷ w) zero b l z = absurd (omega arith)
+repacked (x ∷ []) (suc zero) b l z = ap (λ (y : ℕ). y ∷ []) (omega arith)
+repacked (x ∷ []) (suc (suc zero)) b l z = ap (λ (y : ℕ). y ∷ []) (omega arith)
+repacked (x ∷ []) (suc (suc (suc zero))) b l z = ap (λ (y : ℕ). y ∷ []) (omega arith)
+repacked (x ∷ y ∷ w) (suc zero) b l z = absurd (omega arith)
+repacked (x ∷ y ∷ w) (suc (suc zero)) b l z = absurd (omega arith)
+repacked (x ∷ y ∷ w) (suc (suc (suc zero))) b l z = absurd (omega arith)
+repacked (x ∷ w) (suc (suc (suc (suc n)))) b l z =
+    let i : suc (suc (suc (suc n))) / 4 ≡ suc (n / 4) = omega arith in
+    let j : suc (suc (suc (suc n))) % 4 ≡ n % 4 = omega arith in
+    let h : x < 2 ^ 64 = b 0 in
+    let r : x / 281474976710656 % 65536 ≡ x / 281474976710656 = omega arith in
+    ap₂ (λ (y : ℕ) (r : List ℕ). y ∷ r) (omega arith)
+    (ap packed (units-later x w 0 n) ∙ repacked w n (λ i. b (suc i)) (omega arith) (rw (i, j) at z))
+
+-- and after the last unit packing leaves zeros
+pub padded : (us : List ℕ) → Below 65536 us → getD (packed us) (length us / 4) 0 / 2 ^ (16 * (length us % 4)) ≡ 0
+unfolding packed value
+padded [] h = refl
+padded (a ∷ []) h = omega arith
+padded (a ∷ b ∷ []) h = omega arith
+padded (a ∷ b ∷ c ∷ []) h = omega arith
+padded (a ∷ b ∷ c ∷ d ∷ us) h =
+    let i : suc (suc (suc (suc (length us)))) / 4 ≡ suc (length us / 4) = omega arith in
+    let j : suc (suc (suc (suc (length us)))) % 4 ≡ length us % 4 = omega arith in
+    rw (i, j) (padded us (h .1 .1 .1 .1))

@@ -39,7 +39,7 @@ pub record Writable (a : Array) (x : List ℕ) : Type 0 where
 
 -- ---- strings and their units, by index
 
-counts-at : (ss : List (List ℕ)) (i : ℕ) → i < length ss → getD (unitCounts ss) i 0 ≡ length (stringUnits (getD ss i []))
+pub counts-at : (ss : List (List ℕ)) (i : ℕ) → i < length ss → getD (unitCounts ss) i 0 ≡ length (stringUnits (getD ss i []))
 counts-at [] i h = absurd (omega arith)
 counts-at (s ∷ ss) zero h = refl
 counts-at (s ∷ ss) (suc i) h = counts-at ss i (omega arith)

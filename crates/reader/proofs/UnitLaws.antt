@@ -1,12 +1,13 @@
--- Code units in words: what `unit_at` and `step_at` read, and the longest text of units.
+-- Code units in words: what `unit_at` and `step_at` read, the longest text of units, and whether they fill the words.
 -- Assumes nothing.
 use mathlib.Core.Path.{_≡_, refl, _∙_, ap}
 use mathlib.Core.Bool.{true, false}
 use mathlib.Core.List.{List, [], _∷_}
 use mathlib.Core.Option.{some}
-use Prim.Native.Nat.{ℕ, zero, suc, _+_, _-_, _*_, _≤_, _<_}
+use Prim.Native.Nat.{ℕ, zero, suc, _+_, _-_, _*_, _/_, _%_, _^_, _≤_, _<_}
 use native.Mathlib.Omega.{arith}
-use borrow.Author.Tests.{lt-ltb, le-ltb}
+use borrow.Author.Tests.{lt-ltb, le-ltb, eq-eqb, ne-eqb}
+use lib.Dec.{eqb}
 use lib.ListN.{length, getD, List·getD-eq-default}
 use Rattle.text.specs.Unicode.{Below, utf8s}
 use Rattle.text.specs.Utf16.{unitStep, unitStepAt, scalars16, textOf}
@@ -15,7 +16,7 @@ use Rattle.text.proofs.DecodeLaws.{Reading, reads-start}
 use Rattle.text.proofs.ScalarLaws.{bytes-le}
 use Rattle.text.proofs.Utf8Laws.{map-is}
 use Rattle.text.proofs.Utf16Laws.{spelled16}
-use Rattle.reader.specs.Units.{unitAt, unitsIn}
+use Rattle.reader.specs.Units.{unitAt, unitsIn, isPacked}
 
 pub length-units : (w : List ℕ) (first k n : ℕ) → length (unitsIn w first k n) ≡ n
 unfolding unitsIn
@@ -72,3 +73,20 @@ text-most w first k n e =
     let o = map-is utf8s (scalars16 (unitsIn w first k n)) e in
     let s = spelled16 (unitsIn w first k n) (units-below w first k n) (o .0) (o .1 .0) in
     omega (arith, ap length (s .units), ap length (o .1 .1), bytes-le (o .0), length-units w first k n)
+
+-- ---- the returns of `is_packed`
+
+module _ (w : List ℕ) (first n : ℕ) where
+  pub packed-not : (length w ≡ first + (n + 3) / 4 → ⊥) → false ≡ isPacked w first n
+  unfolding isPacked
+  packed-not h = simp (ne-eqb (length w) (first + (n + 3) / 4) h)
+
+  module _ (h : length w ≡ first + (n + 3) / 4) where
+    -- the last unit fills its word
+    pub packed-full : n % 4 ≡ 0 → true ≡ isPacked w first n
+    unfolding isPacked
+    packed-full e = simp (eq-eqb (length w) (first + (n + 3) / 4) h, List·getD-eq-default w 0 {n = first + n / 4} (omega arith), e)
+
+    pub packed-last : eqb (getD w (first + n / 4) 0 / 2 ^ (16 * (n % 4))) 0 ≡ isPacked w first n
+    unfolding isPacked
+    packed-last = simp (eq-eqb (length w) (first + (n + 3) / 4) h)

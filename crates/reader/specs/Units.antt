@@ -2,8 +2,10 @@
 -- Assumes nothing.
 use Prim.Native.Nat.{ℕ, zero, suc, _+_, _-_, _*_, _/_, _%_, _^_, _≤_}
 use mathlib.Core.Path.{_≡_}
+use mathlib.Core.Bool.{Bool, _&&_}
 use mathlib.Core.List.{List, [], _∷_}
 use mathlib.Core.Option.{Option, some, none}
+use lib.Dec.{eqb}
 use lib.ListN.{length, getD}
 use Rattle.text.specs.Utf16.{textOf, theText}
 use Rattle.reader.specs.declared.units.TextLength.{TextLength}
@@ -17,6 +19,10 @@ unitAt words first k = getD words (first + k / 4) 0 / 2 ^ (16 * (k % 4)) % 65536
 unfoldable pub unitsIn : List ℕ → ℕ → ℕ → ℕ → List ℕ
 unitsIn words first k zero = []
 unitsIn words first k (suc n) = unitAt words first k ∷ unitsIn words first (suc k) n
+
+-- the n units from word first on fill the words to their end; "Writing pads the last word with zeros"
+unfoldable pub isPacked : List ℕ → ℕ → ℕ → Bool
+isPacked words first n = eqb (length words) (first + (n + 3) / 4) && eqb (getD words (first + n / 4) 0 / 2 ^ (16 * (n % 4))) 0
 
 -- those units are there
 pub record UnitsInside (words : List ℕ) (first k n : ℕ) : Type 0 where

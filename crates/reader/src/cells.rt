@@ -46,7 +46,7 @@ fn check_cells(directory: &[u64], n: usize, words: usize) -> Checked
 }
 
 // Check 13 for a directory of the cells of so many words.
-pub(crate) fn check_directory(directory: &[u64], kinds: &[u8], words: usize) -> Checked
+pub fn check_directory(directory: &[u64], kinds: &[u8], words: usize) -> Checked
     ensures { λ r. ⌜ checkedOf r ≡ checkDirectory (now (directory .entry)) (now (kinds .entry)) words ⌝ }
 {
     let len = directory.len();

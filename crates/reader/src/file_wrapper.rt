@@ -47,7 +47,7 @@ pub enum ParseReply {
 }
 
 // Whether a run of checks holds.
-pub(crate) enum Checked {
+pub enum Checked {
     Passed,
     Failed(MatError),
 }

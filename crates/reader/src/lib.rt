@@ -1,6 +1,6 @@
 // Reading string objects: the metadata blob, opaque metadata, and saveobj payloads.
 mod blocks;
-mod cells;
+pub mod cells;
 pub mod classes;
 pub mod decode;
 pub mod file_wrapper;

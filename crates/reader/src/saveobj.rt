@@ -1,5 +1,6 @@
 // Saveobj payloads of string arrays, as `decode_string_saveobj` of `src/mat/de/mcos_reader.rs` of the Rust reads them.
 use crate::units::TextLength;
+use crate::units::is_packed;
 use crate::units::put_text;
 use crate::units::text_length;
 use text::convert::product_fits;
@@ -11,7 +12,7 @@ ghost use mathlib.Core.Path.{_≡_};
 ghost use Prim.Native.Nat.{_+_, _≤_, _<_};
 ghost use lib.ListN.{length};
 ghost use Rattle.text.specs.Result.{mapResult};
-ghost use Rattle.reader.specs.Saveobj.{unitCount, storedStrings, checkDims, checkHeader, checkSum, decodePayload};
+ghost use Rattle.reader.specs.Saveobj.{unitCount, storedStrings, checkDims, checkHeader, checkSum, decodePayload, isCanonicalPayload};
 ghost use Rattle.reader.specs.SaveobjStages.{numberOf, headerOf, countsOf, stringsReplyOf, measuredStrings, UnitsChecked, StringsFit, WritesStrings, FitsAt, WritesAt, DecodesStrings};
 
 // The length that marks a missing string.
@@ -235,5 +236,28 @@ pub fn decode_string_saveobj(payload: &[u64], text: &mut [u8], spans: &mut [u64]
             StringsReply::Strings { bytes, strings }
         }
         StringsReply::Error(e) => StringsReply::Error(e),
+    }
+}
+
+// Whether a payload is exactly what writing gives for its own dimensions and strings.
+pub fn is_canonical_payload(payload: &[u64]) -> bool
+    ensures { λ r. ⌜ r ≡ isCanonicalPayload (now (payload .entry)) ⌝ }
+{
+    match measure_payload(payload) {
+        StringsReply::Strings { bytes: _, strings } => {
+            let base = 2 + to_usize(payload[1]);
+            let mut units: usize = 0;
+            let mut i: usize = 0;
+            while i < strings {
+                let count = payload[base + i];
+                if count == MISSING {
+                    return false;
+                }
+                units += to_usize(count);
+                i += 1;
+            }
+            is_packed(payload, base + strings, units)
+        }
+        StringsReply::Error(_) => false,
     }
 }

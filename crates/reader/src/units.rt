@@ -5,11 +5,11 @@ use text::utf16::UnitStep;
 use text::utf16::unit_step;
 ghost use mathlib.Core.Path.{_≡_};
 ghost use mathlib.Core.Option.{Option·map};
-ghost use Prim.Native.Nat.{_+_, _/_, _<_};
+ghost use Prim.Native.Nat.{_+_, _-_, _*_, _/_, _≤_, _<_};
 ghost use lib.ListN.{length};
 ghost use Rattle.text.specs.Buffer.{Puts};
 ghost use Rattle.text.specs.Utf16.{unitStepAt, textOf, theText};
-ghost use Rattle.reader.specs.Units.{unitAt, unitsIn, UnitsInside, UnitsFit, lengthOf};
+ghost use Rattle.reader.specs.Units.{unitAt, unitsIn, isPacked, UnitsInside, UnitsFit, lengthOf};
 
 // Unit k of the words from index first on.
 fn unit_at(words: &[u64], first: usize, k: usize) -> u16
@@ -86,4 +86,18 @@ pub(crate) fn put_text(
         }
     }
     o
+}
+
+// Whether the n units from word first on fill the words to their end, with zeros after the last one.
+pub(crate) fn is_packed(words: &[u64], first: usize, n: usize) -> bool
+    requires { ⌜ (first ≤ length (now words)) × (n ≤ 4 * (length (now words) - first)) ⌝ }
+    ensures { λ r. ⌜ r ≡ isPacked (now (words .entry)) first n ⌝ }
+{
+    if words.len() != first + (n + 3) / 4 {
+        return false;
+    }
+    if n % 4 == 0 {
+        return true;
+    }
+    words[first + n / 4] >> (16 * (n % 4)) == 0
 }

@@ -16,12 +16,11 @@ use Rattle.writer.specs.FileWrapper.{fileWrapper}
 use Rattle.writer.specs.Spans.{lengthAt}
 use Rattle.writer.proofs.FileWrapperLaws.{length-file-wrapper}
 use Rattle.writer.proofs.LayoutLaws.{length-payload-spans}
-use Rattle.reader.specs.Cells.{checkDirectory}
 use Rattle.reader.proofs.CanonicalLaws.{canonical-directory}
-use Rattle.store.specs.Store.{Store, serialize, counted, storedArrays, isCanonical}
-use Rattle.store.specs.Edits.{checkCounts, checkStore, checkObjectCount, checkRoom, checkAppend, appended, checkReplace, wordsAfter, replaced, over, laid, storeAfter}
-use Rattle.store.specs.Model.{Edit, append, replace, Lengths, Ended, replyOf, checkLengths, tried, candidate, listAfter, modelFrom, call, execute, lengthsOf, ReadsBack, Edited}
-use Rattle.store.proofs.StoreLaws.{AllAccepted, stored-are, canonical-is, length-payloads-last, length-payloads-set, length-payload-nth, span-length, accepted-last, accepted-set, reads-back}
+use Rattle.store.specs.Store.{Store, Lengths, lengthsOf, serialize, counted, storedArrays}
+use Rattle.store.specs.Edits.{checkCounts, checkCounted, checkStore, checkObjectCount, checkRoom, checkAppend, appended, checkReplace, wordsAfter, replaced, replyOf, over, laid, storeAfter}
+use Rattle.store.specs.Model.{Edit, append, replace, Ended, checkLengths, tried, candidate, listAfter, modelFrom, call, execute, ReadsBack, Edited}
+use Rattle.store.proofs.StoreLaws.{AllAccepted, stored-are, serialized-canonical, length-payloads-last, length-payloads-set, length-payload-nth, span-length, accepted-last, accepted-set, reads-back}
 
 -- ---- results
 
@@ -95,31 +94,31 @@ module _ {l : Lengths} {xs : List Array} {s : Store} (k : Holds l xs s) where
       )
 
   pub store-passes : checkStore s ≡ ok tt
-  unfolding checkStore
+  unfolding checkStore checkCounted
   store-passes =
       rw counts-pass
-      (ap (λ (c : Store). checkDirectory (c .directory) (c .kinds) (length (c .words)) >> check 33 (isCanonical c) 0) (k .is)
-      ∙ rw (canonical-directory xs (k .few), canonical-is xs (k .accepted)))
+      (ap checkCounted (k .is)
+      ∙ rw (canonical-directory xs (k .few), serialized-canonical xs (k .accepted)))
 
   pub arrays-are : storedArrays (counted s) ≡ xs
   arrays-are = ap storedArrays (k .is) ∙ stored-are xs (k .accepted)
 
   -- ---- the edits' checks and the model's come to the same
 
-  same-room : (ys : List Array) (n w : ℕ) → n ≡ length ys → w ≡ length (payloads ys) → checkRoom s n w ≡ checkLengths l (serialize ys)
+  same-room : (ys : List Array) (n w : ℕ) → n ≡ length ys → w ≡ length (payloads ys) → checkRoom (lengthsOf s) n w ≡ checkLengths l (serialize ys)
   unfolding checkRoom checkLengths
   same-room ys n w e f = rw (← k .sized, length-file-wrapper, length-payload-spans, length-replicate, e, f)
 
   -- from the array on
   same-tried : (n : ℕ) (w : Array → ℕ) (list : Array → List Array) (dims text spans : List ℕ)
       → ((a : Array) → n ≡ length (list a)) → ((a : Array) → w a ≡ length (payloads (list a)))
-      → ((arrayOf dims text spans >>= λ a. checkObjectCount n >> ok a) >>= λ a. checkRoom s n (w a) >> ok (list a)) ≡ tried l dims text spans list
+      → ((arrayOf dims text spans >>= λ a. checkObjectCount n >> ok a) >>= λ a. checkRoom (lengthsOf s) n (w a) >> ok (list a)) ≡ tried l dims text spans list
   unfolding tried
   same-tried n w list dims text spans e f =
-      bind-same (arrayOf dims text spans) (λ a. checkObjectCount n >> ok a) (λ a. checkRoom s n (w a) >> ok (list a)) _
+      bind-same (arrayOf dims text spans) (λ a. checkObjectCount n >> ok a) (λ a. checkRoom (lengthsOf s) n (w a) >> ok (list a)) _
       (λ a.
       let m : ℕ = length (list a) in
-      rw (e a) (gate 32 (leb m 349522) m (ok a) (λ b. checkRoom s m (w b) >> ok (list b)) _ (λ t. rw (same-room (list a) m (w a) refl (f a)))))
+      rw (e a) (gate 32 (leb m 349522) m (ok a) (λ b. checkRoom (lengthsOf s) m (w b) >> ok (list b)) _ (λ t. rw (same-room (list a) m (w a) refl (f a)))))
 
   same-append : (dims text spans : List ℕ) → appended s dims text spans ≡ candidate l xs (append dims text spans)
   unfolding appended checkAppend candidate
@@ -139,7 +138,7 @@ module _ {l : Lengths} {xs : List Array} {s : Store} (k : Holds l xs s) where
       ok a
 
     after-checks : ℕ → Array → Result (List Array)
-    after-checks n a = checkRoom s n (wordsAfter s id a) >> ok (set xs (id - 1) a)
+    after-checks n a = checkRoom (lengthsOf s) n (wordsAfter s id a) >> ok (set xs (id - 1) a)
 
     same-checks : (n : ℕ) → n ≡ length xs → (replace-checks n >>= after-checks n) ≡ candidate l xs (replace id dims text spans)
     unfolding replace-checks after-checks candidate

@@ -1,2 +1,11 @@
 pub mod StoreLaws
+pub mod CanonicalLaws
+pub mod AppendLaws
+pub mod CheckLaws
+pub mod StageLaws
+pub mod ReplaceLaws
 pub mod EditLaws
+pub mod Examples
+pub mod MoveLaws
+pub mod SpliceLaws
+pub mod ShiftLaws

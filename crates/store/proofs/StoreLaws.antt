@@ -26,7 +26,7 @@ use Rattle.store.specs.Model.{ReadsBack}
 abbrev pub AllAccepted : List Array → Type 0
 AllAccepted xs = (i : ℕ) → i < length xs → Accepted (getD xs i noArray)
 
-both : (s t : Bool) → s ≡ true → t ≡ true → (s && t) ≡ true
+pub both : (s t : Bool) → s ≡ true → t ≡ true → (s && t) ≡ true
 both s t e f = rw (e, f)
 
 -- ---- one array
@@ -69,16 +69,16 @@ canonical-all (a ∷ xs) f =
     both (isCanonicalPayload (payload a)) (every isCanonicalPayload (map payload xs)) (canonical-payload (f 0 (omega arith)))
     (canonical-all xs (λ i h. f (suc i) (omega arith)))
 
-same-store-refl : (s : Store) → sameStore s s ≡ true
+pub same-store-refl : (s : Store) → sameStore s s ≡ true
 same-store-refl s = simp (eq-eqb (s .objects) (s .objects) refl, eq-eqb (s .blobBytes) (s .blobBytes) refl, eq-eqb (s .usedWords) (s .usedWords) refl, same-refl)
 
 module _ (xs : List Array) (f : AllAccepted xs) where
   pub stored-are : storedArrays (serialize xs) ≡ xs
   stored-are = ap (map decodedArray) (cells-are xs) ∙ decoded-all xs f
 
-  pub canonical-is : isCanonical (serialize xs) ≡ true
+  pub serialized-canonical : isCanonical (serialize xs) ≡ true
   unfolding isCanonical
-  canonical-is =
+  serialized-canonical =
       both (every isCanonicalPayload (cells (serialize xs))) (sameStore (serialize xs) (serialize (storedArrays (serialize xs))))
       (ap (every isCanonicalPayload) (cells-are xs) ∙ canonical-all xs f)
       (ap (λ (ys : List Array). sameStore (serialize xs) (serialize ys)) stored-are ∙ same-store-refl (serialize xs))

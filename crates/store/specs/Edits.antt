@@ -4,11 +4,11 @@ use Prim.Native.Nat.{ℕ, _+_, _-_, _*_}
 use mathlib.Core.List.{List, [], _∷_, _++_}
 use lib.Dec.{leb}
 use lib.ListN.{length, set, drop, replicate}
-use Rattle.text.specs.Result.{Result, ok, error, check, checkOutput, _>>_, _>>=_}
+use Rattle.text.specs.Result.{Result, ok, error, mapResult, check, checkOutput, _>>_, _>>=_}
 use Rattle.writer.specs.Array.{Array, payload, arrayOf}
 use Rattle.writer.specs.Spans.{lengthAt}
 use Rattle.reader.specs.Cells.{checkDirectory}
-use Rattle.store.specs.Store.{Store, serialize, counted, storedArrays, isCanonical}
+use Rattle.store.specs.Store.{Store, Lengths, lengthsOf, serialize, counted, storedArrays, isCanonical}
 
 -- 13 in an edit: "the object count if a count goes past its buffer"
 unfoldable pub checkCounts : Store → Result (Unit {0})
@@ -18,24 +18,28 @@ checkCounts s = do
   check 13 (leb (s .blobBytes) (length (s .blob))) (s .objects)
   check 13 (leb (s .usedWords) (length (s .words))) (s .objects)
 
--- 13, "else the number of values if [..] above 699,044 [..]; else the first bad pair", of the counted part; then 33
+-- of the counted part: 13, "else the number of values if [..] above 699,044 [..]; else the first bad pair"; then 33
+unfoldable pub checkCounted : Store → Result (Unit {0})
+checkCounted s = do
+  checkDirectory (s .directory) (s .kinds) (length (s .words))
+  check 33 (isCanonical s) 0
+
 unfoldable pub checkStore : Store → Result (Unit {0})
 checkStore s = do
   checkCounts s
-  checkDirectory (counted s .directory) (counted s .kinds) (length (counted s .words))
-  check 33 (isCanonical (counted s)) 0
+  checkCounted (counted s)
 
 -- 32: "the store at most 349,522 objects"
 abbrev pub checkObjectCount : ℕ → Result (Unit {0})
 checkObjectCount n = check 32 (leb n 349522) n
 
 -- 34 for a store of n objects and so many words, "Sequence: blob, directory, kinds, words"
-unfoldable pub checkRoom : Store → ℕ → ℕ → Result (Unit {0})
-checkRoom s n words = do
-  checkOutput (144 + 48 * n) (length (s .blob))
-  checkOutput (2 * n) (length (s .directory))
-  checkOutput n (length (s .kinds))
-  checkOutput words (length (s .words))
+unfoldable pub checkRoom : Lengths → ℕ → ℕ → Result (Unit {0})
+checkRoom l n words = do
+  checkOutput (144 + 48 * n) (l .blob)
+  checkOutput (2 * n) (l .directory)
+  checkOutput n (l .kinds)
+  checkOutput words (l .words)
 
 -- ---- append
 
@@ -51,7 +55,7 @@ checkAppend s dims text spans = do
 unfoldable pub appended : Store → List ℕ → List ℕ → List ℕ → Result (List Array)
 appended s dims text spans = do
   a ← checkAppend s dims text spans
-  checkRoom s (s .objects + 1) (s .usedWords + length (payload a))
+  checkRoom (lengthsOf s) (s .objects + 1) (s .usedWords + length (payload a))
   ok (storedArrays (counted s) ++ a ∷ [])
 
 -- ---- replace
@@ -74,10 +78,14 @@ wordsAfter s id a = s .usedWords - lengthAt (counted s .directory) (id - 1) + le
 unfoldable pub replaced : Store → ℕ → List ℕ → List ℕ → List ℕ → Result (List Array)
 replaced s id dims text spans = do
   a ← checkReplace s id dims text spans
-  checkRoom s (s .objects) (wordsAfter s id a)
+  checkRoom (lengthsOf s) (s .objects) (wordsAfter s id a)
   ok (set (storedArrays (counted s)) (id - 1) a)
 
--- ---- what an edit leaves
+-- ---- what an edit answers and leaves
+
+-- accepted or refused, without the value
+abbrev pub replyOf : {A : Type 0} → Result A → Result (Unit {0})
+replyOf m = mapResult (λ x. tt) m
 
 -- a list over the front of a buffer, the rest kept
 abbrev pub over : List ℕ → List ℕ → List ℕ

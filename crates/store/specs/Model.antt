@@ -5,7 +5,7 @@ use mathlib.Core.Path.{_≡_}
 use mathlib.Core.List.{List, [], _∷_, _++_}
 use lib.Dec.{leb}
 use lib.ListN.{length, getD, set}
-use Rattle.text.specs.Result.{Result, ok, error, check, checkOutput, mapResult, _>>_, _>>=_}
+use Rattle.text.specs.Result.{Result, ok, error, check, checkOutput, _>>_, _>>=_}
 use Rattle.writer.specs.Array.{Array, noArray, arrayOf}
 use Rattle.reader.specs.Decode.{anyName, stringName, metadataStrings, objectStrings}
 use Rattle.reader.specs.Objects.{objectTriples}
@@ -13,29 +13,18 @@ use Rattle.reader.specs.Opaque.{opaqueMetadata}
 use Rattle.reader.specs.Queries.{intoOutput, nameText, objectClassText}
 use Rattle.reader.specs.Saveobj.{joined, intoStrings}
 use Rattle.reader.specs.declared.opaque.OpaqueMetadata.{OpaqueMetadata}
-use Rattle.store.specs.Store.{Store, serialize, counted}
-use Rattle.store.specs.Edits.{appended, replaced, storeAfter}
+use Rattle.store.specs.Store.{Store, Lengths, lengthsOf, serialize, counted}
+use Rattle.store.specs.Edits.{appended, replaced, replyOf, storeAfter}
 
 -- a call with its arguments as they are lent: the id of a replacement, dimensions, text, spans
 pub data Edit : Type 0 where
   append : List ℕ → List ℕ → List ℕ → Edit
   replace : ℕ → List ℕ → List ℕ → List ℕ → Edit
 
--- "the buffers' lengths"
-pub record Lengths : Type 0 where
-  pub blob : ℕ
-  pub directory : ℕ
-  pub kinds : ℕ
-  pub words : ℕ
-
 -- what a list of edits comes to: what it leaves, and the reply of each
 pub record Ended (A : Type 0) : Type 0 where
   pub last : A
   pub replies : List (Result (Unit {0}))
-
--- accepted or refused, without the value
-abbrev pub replyOf : {A : Type 0} → Result A → Result (Unit {0})
-replyOf m = mapResult (λ x. tt) m
 
 -- ---- the model: "fed only the calls' arguments and the buffers' lengths"
 
@@ -94,9 +83,6 @@ execute s (e ∷ es) = record {
 }
 
 -- ---- the claim
-
-abbrev pub lengthsOf : Store → Lengths
-lengthsOf s = record { blob = length (s .blob); directory = length (s .directory); kinds = length (s .kinds); words = length (s .words) }
 
 -- object id of a store, "read into buffers no shorter than the answer", by the definitions that the calls' contracts cite: class "string", "the
 -- single property "any" with heap value id − 1", and the strings of array a, "by any accepted word list whose ids are that one id, once, or by

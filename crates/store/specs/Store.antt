@@ -21,6 +21,28 @@ pub record Store : Type 0 where
   pub kinds : List ℕ
   pub words : List ℕ
 
+-- "the buffers' lengths"
+pub record Lengths : Type 0 where
+  pub blob : ℕ
+  pub directory : ℕ
+  pub kinds : ℕ
+  pub words : ℕ
+
+abbrev pub lengthsOf : Store → Lengths
+lengthsOf s = record { blob = length (s .blob); directory = length (s .directory); kinds = length (s .kinds); words = length (s .words) }
+
+-- a store by its counts and buffers
+abbrev pub storeOf : ℕ → ℕ → ℕ → List ℕ → List ℕ → List ℕ → List ℕ → Store
+storeOf objects blobBytes usedWords blob directory kinds words = record {
+  objects = objects;
+  blobBytes = blobBytes;
+  usedWords = usedWords;
+  blob = blob;
+  directory = directory;
+  kinds = kinds;
+  words = words;
+}
+
 -- "Written form for n arrays: the blob of `build_string_filewrapper_metadata` for n, 144 + 48n bytes; payloads end to end from word 0, each
 -- exactly what writing gives for its own dimensions and strings; the directory their pairs; kinds 0; counts n, 144 + 48n and the payloads'
 -- words."

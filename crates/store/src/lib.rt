@@ -1,1 +1,6 @@
-// Stores of string objects and their edits. The definitions and the theorem about lists of edits stand in specs/ and proofs/.
+// Stores of string objects, and their edits.
+pub mod append;
+mod canonical;
+pub mod edits;
+mod moves;
+pub mod replace;

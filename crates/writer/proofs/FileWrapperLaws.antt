@@ -38,7 +38,7 @@ u32s-append (v ∷ vs) ws = ap (λ (r : List ℕ). u32Bytes v ++ r) (u32s-append
 abbrev pub entrySize : Region → ℕ
 entrySize r = 4 * length (entry r 0)
 
-length-entry : (r : Region) (i : ℕ) → length (u32s (entry r i)) ≡ entrySize r
+pub length-entry : (r : Region) (i : ℕ) → length (u32s (entry r i)) ≡ entrySize r
 length-entry SavedBlocks i = length-u32s (entry SavedBlocks i)
 length-entry Objects i = length-u32s (entry Objects i)
 length-entry Dependents i = length-u32s (entry Dependents i)

@@ -1,4 +1,5 @@
 pub mod ArrayLaws
+pub mod CompareLaws
 pub mod FileWrapperLaws
 pub mod LayoutLaws
 pub mod MeasureLaws

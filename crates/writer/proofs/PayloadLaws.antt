@@ -73,46 +73,46 @@ comes dims text spans words m e p q = record {
 
 module _ (dims text spans words : List ℕ) {x : LengthReply} (is : lengthReplyOf x ≡ measuredPayload dims text spans) where
   -- what measuring said of the array
-  passed : (m : Result Array) → arrayOf dims text spans ≡ m → {n : ℕ} → x ≡ reply.Length n
+  pub measured-passed : (m : Result Array) → arrayOf dims text spans ≡ m → {n : ℕ} → x ≡ reply.Length n
       → (arrayOf dims text spans ≡ ok (arrayIn dims text spans)) × (length (payload (arrayIn dims text spans)) ≡ n)
-  passed (ok a) e {n} g =
+  measured-passed (ok a) e {n} g =
       let k = array-is dims text spans e in
       let h : mapResult (λ (a : Array). length (payload a)) (ok a) ≡ ok n = ap (mapResult (λ a. length (payload a))) (sym e) ∙ sym is ∙ ap lengthReplyOf g in
       let l : length (payload a) ≡ n = cc in
       (e ∙ ap ok k, ap (λ (a : Array). length (payload a)) (sym k) ∙ l)
-  passed (error f) e {n} g =
+  measured-passed (error f) e {n} g =
       let h : mapResult (λ (a : Array). length (payload a)) (error f) ≡ ok n = ap (mapResult (λ a. length (payload a))) (sym e) ∙ sym is ∙ ap lengthReplyOf g in
       let z : _≡_ {A = ℕ} 0 1 = cc in
       absurd (omega arith)
 
-  failed : (m : Result Array) → arrayOf dims text spans ≡ m → {e : MatError} → x ≡ reply.Error e → arrayOf dims text spans ≡ error (failureOf e)
-  failed (ok a) w {e} g =
+  pub measured-failed : (m : Result Array) → arrayOf dims text spans ≡ m → {e : MatError} → x ≡ reply.Error e → arrayOf dims text spans ≡ error (failureOf e)
+  measured-failed (ok a) w {e} g =
       let h : mapResult (λ (a : Array). length (payload a)) (ok a) ≡ error (failureOf e) = ap (mapResult (λ a. length (payload a))) (sym w) ∙ sym is ∙ ap lengthReplyOf g in
       let z : _≡_ {A = ℕ} 0 1 = cc in
       absurd (omega arith)
-  failed (error f) w {e} g =
+  measured-failed (error f) w {e} g =
       let h : mapResult (λ (a : Array). length (payload a)) (error f) ≡ error (failureOf e) = ap (mapResult (λ a. length (payload a))) (sym w) ∙ sym is ∙ ap lengthReplyOf g in
       let k : f ≡ failureOf e = cc in
       w ∙ ap error k
 
   pub encode-refused : {e : MatError} → x ≡ reply.Error e → EncodesPayload dims text spans words (reply.Error e) words
   unfolding encodePayload
-  encode-refused {e} g = comes dims text spans words (error (failureOf e)) (rw (failed (arrayOf dims text spans) refl g)) refl refl
+  encode-refused {e} g = comes dims text spans words (error (failureOf e)) (rw (measured-failed (arrayOf dims text spans) refl g)) refl refl
 
   module _ {n : ℕ} (g : x ≡ reply.Length n) where
     pub encode-fits : n ≤ length words → PayloadFits dims text spans (length words)
-    encode-fits h = let s = passed (arrayOf dims text spans) refl g in record { passed = s .0; fits = omega arith }
+    encode-fits h = let s = measured-passed (arrayOf dims text spans) refl g in record { passed = s .0; fits = omega arith }
 
     pub encode-short : n < 2 ^ 64 → length words < n → EncodesPayload dims text spans words (reply.Error (OutputTooShort n)) words
     unfolding encodePayload
     encode-short b h =
-        let s = passed (arrayOf dims text spans) refl g in
+        let s = measured-passed (arrayOf dims text spans) refl g in
         let p : min (length (payload (arrayIn dims text spans))) (2 ^ 64 - 1) ≡ n = omega arith in
         comes dims text spans words (error (record { number = 34; place = n })) (rw (s .0) (simp (lt-leb (length (payload (arrayIn dims text spans))) (length words) (omega arith), p))) refl refl
 
     pub encode-written : n ≤ length words → {words' : List ℕ} → words' ≡ put words 0 (payload (arrayIn dims text spans)) → EncodesPayload dims text spans words (reply.Length n) words'
     unfolding encodePayload
     encode-written h b =
-        let s = passed (arrayOf dims text spans) refl g in
+        let s = measured-passed (arrayOf dims text spans) refl g in
         comes dims text spans words (ok (payload (arrayIn dims text spans))) (rw (s .0) (simp (le-leb (length (payload (arrayIn dims text spans))) (length words) (omega arith)))) (ap ok (sym (s .1)))
         (b ∙ put-front words (payload (arrayIn dims text spans)))

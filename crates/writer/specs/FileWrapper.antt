@@ -1,9 +1,11 @@
 -- The metadata blob built for n string objects, region by region.
 -- Assumes nothing.
 use Prim.Native.Nat.{ℕ, zero, suc, _+_, _/_, _%_}
+use mathlib.Core.Bool.{Bool, _&&_}
 use mathlib.Core.List.{List, [], _∷_, _++_, flatMap}
 use lib.Dec.{leb}
 use lib.ListN.{length, replicate}
+use Rattle.text.specs.Buffer.{same}
 use Rattle.text.specs.Result.{Result, ok, check, checkOutput, _>>_}
 use Rattle.writer.specs.declared.file_wrapper.Region.{Region}
 use Rattle.writer.specs.declared.file_wrapper.Region.the-variants.{SavedBlocks, Objects, Dependents}
@@ -64,6 +66,10 @@ offsetsFrom o (r ∷ rs) = o ∷ offsetsFrom (o + length r) rs
 -- version 4, the number of names, "at 8 to 39 eight offsets", the name heap, and the regions
 unfoldable pub fileWrapper : ℕ → List ℕ
 fileWrapper n = u32s (4 ∷ 2 ∷ offsetsFrom (40 + length nameHeap) (regions n)) ++ (nameHeap ++ flatMap (λ r. r) (regions n))
+
+-- whether bytes are the blob for n objects, of which there are at most 349,522
+unfoldable pub isFileWrapper : ℕ → List ℕ → Bool
+isFileWrapper n b = leb n 349522 && same b (fileWrapper n)
 
 -- "Building metadata: 32, 34", for an output of `room` bytes
 unfoldable pub buildMetadata : ℕ → ℕ → Result (List ℕ)

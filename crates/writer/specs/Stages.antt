@@ -1,18 +1,22 @@
--- What the private stages of writing a payload promise each other.
+-- What the private stages of writing a payload, and those of comparing a blob, promise each other.
 -- Assumes nothing.
 use Prim.Native.Nat.{ℕ, _+_, _*_, _/_, _≤_, _<_}
 use mathlib.Core.Path.{_≡_}
-use mathlib.Core.List.{List}
+use mathlib.Core.Bool.{Bool}
+use mathlib.Core.List.{List, _∷_, _++_}
 use mathlib.Core.Option.{some}
-use lib.ListN.{length}
+use lib.ListN.{length, take, drop}
+use Rattle.text.specs.Buffer.{same}
 use Rattle.text.specs.Result.{Result, ok, error, foldRange, _>>_}
 use Rattle.text.specs.Utf8.{unitsOf}
 use Rattle.writer.specs.Array.{Array, stringUnits, allUnits, stringWords, payload, arrayOf}
+use Rattle.writer.specs.FileWrapper.{u32s, nameHeap, classEntries, zeroEntry, regions, offsetsFrom}
 use Rattle.writer.specs.Spans.{endAt, stringAt, stringsFrom, stringsIn, checkString}
 use Rattle.writer.specs.declared.checks.StringMeasure.{StringMeasure}
 use Rattle.writer.specs.declared.checks.StringMeasure.the-variants as string
 use Rattle.writer.specs.declared.checks.TextMeasure.{TextMeasure}
 use Rattle.writer.specs.declared.checks.TextMeasure.the-variants as strings
+use Rattle.writer.specs.declared.file_wrapper.Region.the-variants.{SavedBlocks}
 
 -- the end of string i's span, or 30
 abbrev pub stringEnd : ℕ → StringMeasure → Result ℕ
@@ -56,3 +60,15 @@ pub record StringFits (text spans : List ℕ) (i first count room : ℕ) : Type 
   pub inside : endAt spans i ≤ length text
   pub well-formed : unitsOf (stringAt text spans i) ≡ some (stringUnits (stringAt text spans i))
   pub fits : first + (count + length (stringUnits (stringAt text spans i))) / 4 ≤ room
+
+-- whether w stands in b from index i on
+unfoldable pub standsAt : List ℕ → ℕ → List ℕ → Bool
+standsAt b i w = same (take (length w) (drop i b)) w
+
+-- what a function that tests that returns
+pub record Has (b : List ℕ) (i : ℕ) (w : List ℕ) (r : Bool) : Type 0 where
+  pub is : r ≡ standsAt b i w
+
+-- what stands before the entries in the blob for n objects
+unfoldable pub fileHead : ℕ → List ℕ
+fileHead n = u32s (4 ∷ 2 ∷ offsetsFrom 56 (regions n)) ++ (nameHeap ++ classEntries) ++ u32s (zeroEntry SavedBlocks)

@@ -2,6 +2,7 @@
 use crate::checks::TextMeasure;
 use crate::checks::is_shape;
 use crate::checks::measure_strings;
+use crate::compare::has_file_wrapper;
 use crate::file_wrapper::put_file_wrapper;
 use crate::packing::put_strings;
 use crate::packing::put_words;
@@ -11,6 +12,7 @@ ghost use mathlib.Core.Path.{_≡_};
 ghost use lib.ListN.{length};
 ghost use Rattle.text.specs.Buffer.{put};
 ghost use Rattle.writer.specs.Array.{payload};
+ghost use Rattle.writer.specs.FileWrapper.{isFileWrapper};
 ghost use Rattle.writer.specs.Metadata.{objectMetadata};
 ghost use Rattle.writer.specs.Replies.{lengthReplyOf, measuredPayload, EncodesPayload, BuildsMetadata};
 ghost use Rattle.writer.specs.Stages.{arrayIn, PayloadFits};
@@ -108,4 +110,18 @@ pub fn build_string_filewrapper_metadata(object_count: u64, blob: &mut [u8]) -> 
     }
     put_file_wrapper(n, blob);
     LengthReply::Length(need)
+}
+
+// Whether blob is the metadata blob for a number of string objects.
+pub fn is_string_filewrapper_metadata(object_count: u64, blob: &[u8]) -> bool
+    ensures { λ r. ⌜ r ≡ isFileWrapper «object_count» (now (blob .entry)) ⌝ }
+{
+    if MAX_OBJECTS < object_count {
+        return false;
+    }
+    let n = to_usize(object_count);
+    if blob.len() != 144 + 48 * n {
+        return false;
+    }
+    has_file_wrapper(n, blob)
 }
