@@ -1,19 +1,20 @@
 -- Code units in words: what `unit_at` and `step_at` read, the longest text of units, and whether they fill the words.
 -- Assumes nothing.
 use mathlib.Core.Path.{_≡_, refl, _∙_, ap}
-use mathlib.Core.Bool.{true, false}
+use mathlib.Core.Bool.{Bool, true, false}
 use mathlib.Core.List.{List, [], _∷_}
 use mathlib.Core.Option.{some}
 use Prim.Native.Nat.{ℕ, zero, suc, _+_, _-_, _*_, _/_, _%_, _^_, _≤_, _<_}
 use native.Mathlib.Omega.{arith}
-use borrow.Author.Tests.{lt-ltb, le-ltb, eq-eqb, ne-eqb}
-use lib.Dec.{eqb}
+use borrow.Author.Tests.{lt-ltb, le-ltb, ltb-true, eq-eqb, ne-eqb}
+use lib.Dec.{ltb, eqb}
 use lib.ListN.{length, getD, List·getD-eq-default}
-use Rattle.text.specs.Unicode.{Below, utf8s}
-use Rattle.text.specs.Utf16.{unitStep, unitStepAt, scalars16, textOf}
+use Rattle.text.specs.Unicode.{Below, isHighSurrogate, isLowSurrogate, isSurrogate, utf8s}
+use Rattle.text.specs.Utf16.{pairValue, unitStep, unitStepAt, scalars16, textOf}
 use Rattle.text.specs.declared.utf16.UnitStep.{UnitStep}
+use Rattle.text.specs.declared.utf16.UnitStep.the-variants.{Scalar, Unpaired}
 use Rattle.text.proofs.DecodeLaws.{Reading, reads-start}
-use Rattle.text.proofs.ScalarLaws.{bytes-le}
+use Rattle.text.proofs.ScalarLaws.{gap-below, bytes-le}
 use Rattle.text.proofs.Utf8Laws.{map-is}
 use Rattle.text.proofs.Utf16Laws.{spelled16}
 use Rattle.reader.specs.Units.{unitAt, unitsIn, isPacked}
@@ -29,7 +30,7 @@ units-below w first k zero = tt
 units-below w first k (suc n) = (omega arith, units-below w first (suc k) n)
 
 -- unit i of them
-unit-of : (w : List ℕ) (first k n i : ℕ) → i < n → getD (unitsIn w first k n) i 0 ≡ unitAt w first (k + i)
+pub unit-of : (w : List ℕ) (first k n i : ℕ) → i < n → getD (unitsIn w first k n) i 0 ≡ unitAt w first (k + i)
 unfolding unitsIn
 unit-of w first k zero i h = absurd (omega arith)
 unit-of w first k (suc n) zero h =
@@ -47,9 +48,33 @@ below-at b (u ∷ us) p h (suc i) = below-at b us p (h .1) i
 pub reads-units : (w : List ℕ) (first k n : ℕ) → Reading (unitsIn w first k n) 0
 reads-units w first k n = reads-start (unitsIn w first k n) (below-at 65536 (unitsIn w first k n) (omega arith) (units-below w first k n))
 
+-- ---- a surrogate is the first of a pair, or has no partner
+
+pub record Pair (us : List ℕ) (i : ℕ) : Type 0 where
+  pub more : i + 1 < length us
+  pub high : isHighSurrogate (getD us i 0) ≡ true
+  pub low : isLowSurrogate (getD us (i + 1) 0) ≡ true
+  pub is : Scalar (pairValue (getD us i 0) (getD us (i + 1) 0)) 2 ≡ unitStepAt us i
+
+pub pair-by : (us : List ℕ) (i : ℕ) (a b c : Bool) → isSurrogate (getD us i 0) ≡ true → isHighSurrogate (getD us i 0) ≡ a
+    → ltb (i + 1) (length us) ≡ b → isLowSurrogate (getD us (i + 1) 0) ≡ c → (Unpaired ≡ unitStepAt us i → ⊥) → Pair us i
+unfolding unitStep
+pair-by us i true true true g ea eb ec never = record { more = ltb-true _ _ eb; high = ea; low = ec; is = simp (g, ea, eb, ec) }
+pair-by us i true true false g ea eb ec never = absurd (never (simp (g, ea, eb, ec)))
+pair-by us i true false c g ea eb ec never = absurd (never (simp (g, ea, eb)))
+pair-by us i false b c g ea eb ec never = absurd (never (simp (g, ea)))
+
 -- ---- the returns of `step_at`
 
 module _ (w : List ℕ) (first k n i : ℕ) {u : ℕ} (h : i < n) (eu : u ≡ unitAt w first (k + i)) where
+  -- no surrogate: the unit alone
+  pub step-single : isSurrogate u ≡ false → Scalar u 1 ≡ unitStepAt (unitsIn w first k n) i
+  unfolding unitStep
+  step-single g = rw (unit-of w first k n i h, ← eu) (simp g)
+
+  pub step-one : u < 0xD800 → Scalar u 1 ≡ unitStepAt (unitsIn w first k n) i
+  step-one l = step-single (gap-below u l)
+
   pub step-last : n - i < 2 → {x : UnitStep} → x ≡ unitStep u 0 false → x ≡ unitStepAt (unitsIn w first k n) i
   step-last l e =
       let m = length-units w first k n in

@@ -35,6 +35,14 @@ pub record UnitsFit (words : List ℕ) (first k n at room : ℕ) : Type 0 where
   pub is-text : textOf (unitsIn words first k n) ≡ some (theText (unitsIn words first k n))
   pub fits : at + length (theText (unitsIn words first k n)) ≤ room
 
+-- a surrogate pair, and from index at on there is room for its four bytes
+pub record PairFits (high low at room : ℕ) : Type 0 where
+  pub high-from : 0xD800 ≤ high
+  pub high-to : high ≤ 0xDBFF
+  pub low-from : 0xDC00 ≤ low
+  pub low-to : low ≤ 0xDFFF
+  pub fits : at + 4 ≤ room
+
 -- the length of the text of code units, where there is one
 abbrev pub lengthOf : TextLength → Option ℕ
 lengthOf (textLength.Bytes n) = some n

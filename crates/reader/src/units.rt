@@ -7,9 +7,10 @@ ghost use mathlib.Core.Path.{_≡_};
 ghost use mathlib.Core.Option.{Option·map};
 ghost use Prim.Native.Nat.{_+_, _-_, _*_, _/_, _≤_, _<_};
 ghost use lib.ListN.{length};
-ghost use Rattle.text.specs.Buffer.{Puts};
-ghost use Rattle.text.specs.Utf16.{unitStepAt, textOf, theText};
-ghost use Rattle.reader.specs.Units.{unitAt, unitsIn, isPacked, UnitsInside, UnitsFit, lengthOf};
+ghost use Rattle.text.specs.Buffer.{Places, Puts};
+ghost use Rattle.text.specs.Unicode.{isSurrogate, utf8, encoded};
+ghost use Rattle.text.specs.Utf16.{pairValue, unitStepAt, textOf, theText};
+ghost use Rattle.reader.specs.Units.{unitAt, unitsIn, isPacked, UnitsInside, UnitsFit, PairFits, lengthOf};
 
 // Unit k of the words from index first on.
 fn unit_at(words: &[u64], first: usize, k: usize) -> u16
@@ -21,12 +22,18 @@ fn unit_at(words: &[u64], first: usize, k: usize) -> u16
     ((word >> low) % 65536) as u16
 }
 
-// One step of decoding at index i of the n units from unit k on.
+// One step of decoding at index i of the n units from unit k on. The second unit is looked at only after a surrogate.
 fn step_at(words: &[u64], first: usize, k: usize, n: usize, i: usize) -> UnitStep
     requires { ⌜ (i < n) × UnitsInside (now words) first k n ⌝ }
     ensures { λ r. ⌜ r ≡ unitStepAt (unitsIn (now (words .entry)) first k n) i ⌝ }
 {
     let unit = unit_at(words, first, k + i);
+    if unit < 0xD800 {
+        return UnitStep::Scalar {
+            value: unit as u32,
+            units: 1,
+        };
+    }
     if n - i < 2 {
         return unit_step(unit, 0, false);
     }
@@ -39,7 +46,7 @@ pub(crate) enum TextLength {
     Unpaired,
 }
 
-// Measures the text of the n units from unit k on, and looks at the pairing of their surrogates.
+// Measures the text of the n units from unit k on, and looks at the pairing of their surrogates. ASCII is answered at once.
 pub(crate) fn text_length(words: &[u64], first: usize, k: usize, n: usize) -> TextLength
     requires { ⌜ UnitsInside (now words) first k n ⌝ }
     ensures { λ r. ⌜ lengthOf r ≡ Option·map length (textOf (unitsIn (now (words .entry)) first k n)) ⌝ }
@@ -47,6 +54,11 @@ pub(crate) fn text_length(words: &[u64], first: usize, k: usize, n: usize) -> Te
     let mut bytes: usize = 0;
     let mut i: usize = 0;
     while i < n {
+        if unit_at(words, first, k + i) < 0x80 {
+            bytes += 1;
+            i += 1;
+            continue;
+        }
         match step_at(words, first, k, n, i) {
             UnitStep::Scalar { value, units } => {
                 bytes += utf8_len(value);
@@ -60,7 +72,28 @@ pub(crate) fn text_length(words: &[u64], first: usize, k: usize, n: usize) -> Te
     TextLength::Bytes(bytes)
 }
 
-// Writes the text of the n units from unit k on into out from index at on, and returns the index after it.
+// Whether a unit is a surrogate.
+fn is_surrogate(unit: u16) -> bool
+    ensures { λ r. ⌜ r ≡ isSurrogate unit ⌝ }
+{
+    0xD800 <= unit && unit <= 0xDFFF
+}
+
+// Writes the four bytes of a surrogate pair into out from index at on, and returns the index after them.
+fn put_pair(high: u16, low: u16, out: &mut [u8], at: usize) -> usize
+    requires { ⌜ PairFits high low at (length (now out)) ⌝ }
+    ensures { λ r. ⌜ Places (now (out .entry)) at (encoded utf8 (pairValue high low)) r (now (out .exit)) ⌝ }
+{
+    let value = 0x10000 + (high as u32 - 0xD800) * 1024 + (low as u32 - 0xDC00);
+    out[at] = (0xF0 + value / 262144) as u8;
+    out[at + 1] = (0x80 + value / 4096 % 64) as u8;
+    out[at + 2] = (0x80 + value / 64 % 64) as u8;
+    out[at + 3] = (0x80 + value % 64) as u8;
+    at + 4
+}
+
+// Writes the text of the n units from unit k on into out from index at on, and returns the index after it. They were measured, so that
+// a surrogate is the first of a pair.
 pub(crate) fn put_text(
     words: &[u64],
     first: usize,
@@ -75,15 +108,20 @@ pub(crate) fn put_text(
     let mut o = at;
     let mut i: usize = 0;
     while i < n {
-        match step_at(words, first, k, n, i) {
-            UnitStep::Scalar { value, units } => {
-                o = put_scalar(value, out, o);
-                i += units;
-            }
-            UnitStep::Unpaired => {
-                return o;
-            }
+        let unit = unit_at(words, first, k + i);
+        if unit < 0x80 {
+            out[o] = unit as u8;
+            o += 1;
+            i += 1;
+            continue;
         }
+        if is_surrogate(unit) {
+            o = put_pair(unit, unit_at(words, first, k + (i + 1)), out, o);
+            i += 2;
+            continue;
+        }
+        o = put_scalar(unit as u32, out, o);
+        i += 1;
     }
     o
 }

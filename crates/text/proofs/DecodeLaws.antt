@@ -12,10 +12,10 @@ use borrow.Author.Tests.{ltb-true, ltb-false, lt-leb, le-leb, not-true, not-fals
 use lib.Dec.{ltb}
 use lib.ListN.{length, getD, drop, length-append, drop-of-length-le}
 use lib.Seq.{drop-cons}
-use Rattle.text.specs.Buffer.{put, Places}
+use Rattle.text.specs.Buffer.{put}
 use Rattle.text.specs.Replies.{lengthOf, textReplyOf, DecodesUtf16}
 use Rattle.text.specs.Result.{Result, ok, error, mapResult, needPlace, overwritten}
-use Rattle.text.specs.Unicode.{isHighSurrogate, isLowSurrogate, isSurrogate, utf8, utf8s, encoded}
+use Rattle.text.specs.Unicode.{isHighSurrogate, isLowSurrogate, isSurrogate, utf8, utf8s}
 use Rattle.text.specs.Utf16.{pairValue, unitStep, unitStepAt, scalars16, textOf, theText, TextFits, decodeUtf16}
 use Rattle.text.specs.declared.error.MatError.the-variants.{OutputTooShort, UnpairedSurrogate}
 use Rattle.text.specs.declared.utf16.TextLength.{TextLength}
@@ -24,8 +24,8 @@ use Rattle.text.specs.declared.utf16.TextReply.{TextReply}
 use Rattle.text.specs.declared.utf16.TextReply.the-variants as textReply
 use Rattle.text.specs.declared.utf16.UnitStep.{UnitStep}
 use Rattle.text.specs.declared.utf16.UnitStep.the-variants.{Scalar, Unpaired}
-use Rattle.text.proofs.BufferLaws.{SoFar, Splits, begins, ends, put-front, places-on}
-use Rattle.text.proofs.ScalarLaws.{IsScalar, is-scalar, gap-below, gap-above, lengths, utf16-1, utf16-2, utf8s-nil, utf8s-cons}
+use Rattle.text.proofs.BufferLaws.{SoFar, Splits, begins, fits-next, goes-on, ends, put-front}
+use Rattle.text.proofs.ScalarLaws.{IsScalar, gap-below, gap-above, lengths, utf16-1, utf16-2, utf8s-nil, utf8s-cons}
 use Rattle.text.proofs.TestLaws.{within-yes, within-under, within-over, within-is}
 use Rattle.text.proofs.Utf8Laws.{map-is, not-some}
 use Rattle.text.proofs.Utf16Laws.{one-unit, two-units, scalars16-nil, alone, low-first, no-low}
@@ -225,19 +225,27 @@ write-start {us} {d} r f =
 
 module _ {us d₀ d : List ℕ} {i o : ℕ} (w : Writing us d₀ d i o) where
   module _ {x : UnitStep} (h : i < length us) (e : x ≡ unitStepAt us i) where
-    pub write-turn : {v n o' : ℕ} {d' : List ℕ} → x ≡ Scalar v n → Places d o (encoded utf8 v) o' d' → Writing us d₀ d' (i + n) o'
-    write-turn {v} {n} {o'} {d'} g p =
-        let f = found (w .reading) h e g in
-        let m = map-is (λ vs. v ∷ vs) (scalars16 (drop (i + n) us)) (sym (f .rest) ∙ w .rest) in
-        let s : Splits (utf8s (w .more)) (utf8 v) (utf8s (m .0)) = record { is = ap utf8s (m .1 .1) ∙ utf8s-cons v (m .0) } in
-        let q : Places d o (utf8 v) o' d' = simp (is-scalar (f .scalar)) at p in
-        record {
-          reading = reads-on (w .reading) h e g;
-          more = m .0;
-          rest = m .1 .0;
-          room = w .room;
-          so-far = places-on (w .room) s (w .so-far) q;
-        }
+    module _ {v n : ℕ} (g : x ≡ Scalar v n) where
+      next-values : (vs : List ℕ) × ((scalars16 (drop (i + n) us) ≡ some vs) × (w .more ≡ v ∷ vs))
+      next-values = map-is (λ vs. v ∷ vs) (scalars16 (drop (i + n) us)) (sym (found (w .reading) h e g .rest) ∙ w .rest)
+
+      next-splits : Splits (utf8s (w .more)) (utf8 v) (utf8s (next-values .0))
+      next-splits = record { is = ap utf8s (next-values .1 .1) ∙ utf8s-cons v (next-values .0) }
+
+      pub write-top : v < 1114112
+      write-top = found (w .reading) h e g .scalar .top
+
+      pub write-room : o + length (utf8 v) ≤ length d
+      write-room = fits-next (w .room) next-splits (w .so-far)
+
+      pub write-turn : {o' : ℕ} {d' : List ℕ} → o' ≡ o + length (utf8 v) → d' ≡ put d o (utf8 v) → Writing us d₀ d' (i + n) o'
+      write-turn {o'} {d'} p q = record {
+        reading = reads-on (w .reading) h e g;
+        more = next-values .0;
+        rest = next-values .1 .0;
+        room = w .room;
+        so-far = goes-on (w .room) next-splits (w .so-far) d' o' q p;
+      }
 
     -- a text that is written has no such surrogate
     pub write-never : x ≡ Unpaired → d ≡ put d₀ 0 (theText us)

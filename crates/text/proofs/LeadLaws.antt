@@ -26,15 +26,15 @@ lowBy b = cond (eqb b 224) 160 (cond (eqb b 240) 144 128)
 abbrev highBy : ℕ → ℕ
 highBy b = cond (eqb b 237) 159 (cond (eqb b 244) 143 191)
 
-length-by : (b : ℕ) → b < 256 → sequenceLength b ≡ lengthBy b
+pub length-by : (b : ℕ) → b < 256 → sequenceLength b ≡ lengthBy b
 unfolding sequenceLength find table
 length-by b h = agree sequenceLength lengthBy 256 tt b h
 
-low-by : (b : ℕ) → b < 256 → secondRange b .low ≡ lowBy b
+pub low-by : (b : ℕ) → b < 256 → secondRange b .low ≡ lowBy b
 unfolding secondRange find table
 low-by b h = agree (λ k. secondRange k .low) lowBy 256 tt b h
 
-high-by : (b : ℕ) → b < 256 → secondRange b .high ≡ highBy b
+pub high-by : (b : ℕ) → b < 256 → secondRange b .high ≡ highBy b
 unfolding secondRange find table
 high-by b h = agree (λ k. secondRange k .high) highBy 256 tt b h
 
@@ -51,7 +51,7 @@ find-none (r ∷ rs) t b h =
     let l : leb b (r .first-high) ≡ false = lt-leb b (r .first-high) (omega (arith, leb-true (r .first-high) 255 (p .0))) in
     simp (l, and-false) (find-none rs (p .1) b h)
 
-no-start : (b : ℕ) → 256 ≤ b → sequenceLength b ≡ 0
+pub no-start : (b : ℕ) → 256 ≤ b → sequenceLength b ≡ 0
 unfolding sequenceLength table
 no-start b h = find-none table refl b h
 

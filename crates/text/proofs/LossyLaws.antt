@@ -3,13 +3,16 @@
 use mathlib.Core.Path.{_≡_, refl, _∙_, sym, ap, ap₂}
 use mathlib.Core.Bool.{Bool, true, false, cond}
 use mathlib.Core.List.{List, [], _∷_, _++_, map, flatMap}
-use Prim.Native.Nat.{ℕ, _+_, _-_, _^_, _≤_, _<_, min}
+use mathlib.Core.Option.{some, Option·map}
+use Prim.Native.Nat.{ℕ, _+_, _-_, _*_, _/_, _^_, _≤_, _<_, min}
 use native.Mathlib.Omega.{arith}
 use borrow.Author.Tests.{lt-ltb, le-ltb, lt-leb, le-leb, leb-true, ltb-true, ltb-false}
 use lib.Dec.{leb, ltb}
-use lib.ListN.{length, length-append}
+use lib.ListN.{length, getD, length-append}
 use Rattle.text.specs.declared.utf8.Step.{Step}
 use Rattle.text.specs.declared.utf8.Step.the-variants.{Scalar, IllFormed, End}
+use Rattle.text.specs.declared.utf8.Extent.{Extent}
+use Rattle.text.specs.declared.utf8.Extent.the-variants as extent
 use Rattle.text.specs.declared.utf8.LossyLength.{LossyLength}
 use Rattle.text.specs.declared.utf8.LossyLength.the-variants as measure
 use Rattle.text.specs.declared.utf8.LossyReply.{LossyReply}
@@ -18,11 +21,13 @@ use Rattle.text.specs.Buffer.{put, Places, Filled, fill, Fills}
 use Rattle.text.specs.Replies.{lossyLength, WritesLossy}
 use Rattle.text.specs.Result.{needPlace}
 use Rattle.text.specs.Unicode.{isScalar, utf8, utf8s, encoded}
-use Rattle.text.specs.Utf8.{stepAt, partsFrom, repaired, replacedIn, lossy, lossySequences}
+use Rattle.text.specs.Utf8.{Part, sequence, illFormed, stepAt, extentStep, valueHere, AsciiRun, partsFrom, scalarsOf, repaired, replacedIn, lossy, lossySequences}
 use Rattle.text.proofs.BufferLaws.{put-front, places-same, fill-fits}
+use Rattle.text.proofs.ExtentLaws.{run-rule}
+use Rattle.text.proofs.LeadLaws.{ascii}
 use Rattle.text.proofs.PartLaws.{Advances, step-reads, step-breaks, step-end, parts-end, parts-scalar, parts-ill-formed}
 use Rattle.text.proofs.ScalarLaws.{is-scalar}
-use Rattle.text.proofs.Utf8Laws.{step-took}
+use Rattle.text.proofs.Utf8Laws.{step-took, took-size, spelled}
 
 -- what a step writes: the scalar value w, with k replaced parts
 pub record Writes (s : List ℕ) (i next w k : ℕ) : Type 0 where
@@ -59,54 +64,80 @@ replacement-size = refl
 
 -- ---- measuring
 
--- the text before i has these bytes and these replaced parts
-pub record Measuring (s : List ℕ) (bytes replaced i : ℕ) : Type 0 where
+-- of the bytes before i, these are in ill-formed parts, and there are these replaced parts
+pub record Measuring (s : List ℕ) (broken replaced i : ℕ) : Type 0 where
   pub bound : i ≤ length s
   pub few : replaced ≤ i
-  pub fits : bytes < 2 ^ 64
-  pub size : bytes + length (utf8s (repaired (partsFrom s i))) ≡ length (lossy s)
+  pub kept : broken ≤ i
+  pub size : (i - broken) + 3 * replaced + length (utf8s (repaired (partsFrom s i))) ≡ length (lossy s)
   pub count : replaced + replacedIn (partsFrom s i) ≡ replacedIn (partsFrom s 0)
 
 module _ (s : List ℕ) where
   pub measure-start : Measuring s 0 0 0
-  measure-start = record { bound = omega arith; few = omega arith; fits = omega arith; size = omega arith; count = omega arith }
+  measure-start = record { bound = omega arith; few = omega arith; kept = omega arith; size = omega arith; count = omega arith }
 
-  module _ {bytes replaced i : ℕ} (m : Measuring s bytes replaced i) where
+  module _ {broken replaced i : ℕ} (m : Measuring s broken replaced i) where
     split-size : {next w k : ℕ} → Writes s i next w k
         → length (utf8s (repaired (partsFrom s i))) ≡ length (utf8 w) + length (utf8s (repaired (partsFrom s next)))
     unfolding flatMap
     split-size {next} {w} x = ap (λ (vs : List ℕ). length (utf8s vs)) (x .parts) ∙ length-append (utf8 w) (utf8s (repaired (partsFrom s next)))
 
-    turn : {next w k b r : ℕ} → Writes s i next w k → b ≡ bytes + length (utf8 w) → r ≡ replaced + k → k ≤ 1 → b < 2 ^ 64 → Measuring s b r next
-    turn x eb er l f =
+    measure-scalar : {v next : ℕ} → stepAt s i ≡ Scalar v next → Measuring s broken replaced next
+    measure-scalar e =
+        let x = writes-scalar s i refl e in
         let a = x .advance in
-        record { bound = a .inside; few = omega (arith, a); fits = f; size = omega (arith, split-size x); count = omega (arith, x .count) }
+        record {
+          bound = a .inside;
+          few = omega (arith, a);
+          kept = omega (arith, a);
+          size = omega (arith, split-size x, took-size (step-reads s i e));
+          count = omega (arith, x .count);
+        }
 
-    over : {next w k : ℕ} → Writes s i next w k → 2 ^ 64 ≤ bytes + length (utf8 w) → measure.TooLong ≡ lossyLength s
-    unfolding lossyLength
-    over x h = simp (le-ltb (length (lossy s)) (2 ^ 64) (omega (arith, split-size x)))
+    module _ {x : Extent} (e : stepAt s i ≡ extentStep x (valueHere s i)) where
+      pub measure-whole : {next : ℕ} → x ≡ extent.Whole next → Measuring s broken replaced next
+      unfolding extentStep
+      measure-whole g = measure-scalar (rw g at e)
 
-    module _ {x : Step} (e : x ≡ stepAt s i) where
-      pub measure-scalar : {v next n : ℕ} → x ≡ Scalar v next → (n ≡ length (utf8 v)) × (n ≤ 4) → n ≤ 18446744073709551615 - bytes → Measuring s (bytes + n) replaced next
-      measure-scalar g w h = turn (writes-scalar s i e g) (omega arith) (omega arith) (omega arith) (omega arith)
+      breaks : {next : ℕ} → x ≡ extent.IllFormed next → stepAt s i ≡ IllFormed next
+      unfolding extentStep
+      breaks g = rw g at e
 
-      pub measure-replacement : {next : ℕ} → x ≡ IllFormed next → 3 ≤ 18446744073709551615 - bytes → Measuring s (bytes + 3) (replaced + 1) next
-      measure-replacement g h = turn (writes-replacement s i e g) (omega (arith, replacement-size)) (omega arith) (omega arith) (omega arith)
+      pub measure-ill-formed : {next : ℕ} → x ≡ extent.IllFormed next → Measuring s (broken + (next - i)) (replaced + 1) next
+      measure-ill-formed g =
+          let x = writes-replacement s i refl (breaks g) in
+          let a = x .advance in
+          record {
+            bound = a .inside;
+            few = omega (arith, a);
+            kept = omega (arith, a);
+            size = omega (arith, split-size x, a, replacement-size);
+            count = omega (arith, x .count);
+          }
 
-      pub over-scalar : {v next n : ℕ} → x ≡ Scalar v next → (n ≡ length (utf8 v)) × (n ≤ 4) → 18446744073709551615 - bytes < n → measure.TooLong ≡ lossyLength s
-      over-scalar g w h = over (writes-scalar s i e g) (omega arith)
+    module _ (h : length s ≤ i) where
+      none : partsFrom s i ≡ []
+      none = parts-end s i h
 
-      pub over-replacement : {next : ℕ} → x ≡ IllFormed next → 18446744073709551615 - bytes < 3 → measure.TooLong ≡ lossyLength s
-      over-replacement g h = over (writes-replacement s i e g) (omega (arith, replacement-size))
+      bytes-are : (i - broken) + 3 * replaced ≡ length (lossy s)
+      unfolding repaired flatMap
+      bytes-are = omega (arith, rw none at (m .size))
 
-      pub measure-last : x ≡ End → measure.Length bytes replaced ≡ lossyLength s
-      unfolding lossyLength repaired replacedIn flatMap
-      measure-last g =
-          let p = nothing-left s i e g in
-          let a : bytes ≡ length (lossy s) = omega (arith, rw p at (m .size)) in
-          let r : replaced ≡ replacedIn (partsFrom s 0) = omega (arith, rw p at (m .count)) in
-          let f = m .fits in
-          simp (lt-ltb (length (lossy s)) (2 ^ 64) (omega arith)) (ap₂ (λ (b n : ℕ). measure.Length b n) a r)
+      pub measure-over : (18446744073709551615 - (i - broken)) / 3 < replaced → measure.TooLong ≡ lossyLength s
+      unfolding lossyLength
+      measure-over l = simp (le-ltb (length (lossy s)) (2 ^ 64) (omega (arith, bytes-are, m .bound)))
+
+      pub measure-last : length s < 2 ^ 64 → replaced ≤ (18446744073709551615 - (i - broken)) / 3 → measure.Length ((i - broken) + 3 * replaced) replaced ≡ lossyLength s
+      unfolding lossyLength replacedIn
+      measure-last f l =
+          let r : replaced ≡ replacedIn (partsFrom s 0) = omega (arith, rw none at (m .count)) in
+          simp (lt-ltb (length (lossy s)) (2 ^ 64) (omega (arith, bytes-are, m .bound))) (ap₂ (λ (b n : ℕ). measure.Length b n) bytes-are r)
+
+  pub measure-run : {broken replaced i j : ℕ} → Measuring s broken replaced i → i < length s → getD s i 0 < 128 → AsciiRun s (i + 1) j → Measuring s broken replaced j
+  measure-run {broken} {replaced} {i} m h b r =
+      let step : (k : ℕ) → k < length s → getD s k 0 < 128 → Measuring s broken replaced k → Measuring s broken replaced (k + 1) =
+      λ k h b n. measure-scalar n (sym (ascii s k h b)) in
+      run-rule s (λ (k : ℕ). Measuring s broken replaced k) step r (step i h b m)
 
 -- ---- writing
 
@@ -160,6 +191,16 @@ lossy-fills s {d} {d'} {i} {next} h f =
     let e = f .is ∙ r in
     (ap (λ (x : Filled). x .buffer) e ∙ ap (put d i) j, ap (λ (x : Filled). x .next) e ∙ ap (λ (x : List ℕ). i + length x) j)
 
+-- a text in which nothing is replaced is its own repaired text
+whole-parts : (ps : List Part) → replacedIn ps ≡ 0 → scalarsOf ps ≡ some (repaired ps)
+unfolding replacedIn scalarsOf repaired
+whole-parts [] e = refl
+whole-parts (sequence v ∷ ps) e = ap (Option·map (λ vs. v ∷ vs)) (whole-parts ps e)
+whole-parts (illFormed i ∷ ps) e = absurd (omega arith)
+
+own-repair : (s : List ℕ) → replacedIn (partsFrom s 0) ≡ 0 → s ≡ lossy s
+own-repair s e = spelled s (whole-parts (partsFrom s 0) e) .bytes
+
 -- ---- the public call
 
 module _ (s out : List ℕ) {x : LossyLength} (is : x ≡ lossyLength s) where
@@ -195,6 +236,23 @@ module _ (s out : List ℕ) {x : LossyLength} (is : x ≡ lossyLength s) where
       let l = length-is e in
       let t : leb (length (lossy s)) (length out) ≡ true = le-leb (length (lossy s)) (length out) (omega (arith, l)) in
       record { reply = simp t (ap₂ (λ (b k : ℕ). lossyReply.Written b k) (l .0) (l .1)); buffer = simp t (lossy-fills s (omega (arith, l)) w .0 ∙ put-front out (lossy s)) }
+
+  -- the text itself is written where nothing is replaced
+  module _ {n r : ℕ} (e : x ≡ measure.Length n r) (h : n ≤ length out) (z : r ≡ 0) where
+    is-own : s ≡ lossy s
+    is-own = own-repair s (sym (length-is e .1) ∙ z)
+
+    pub own-fits : length s ≤ length out
+    own-fits = omega (arith, length-is e, ap length is-own)
+
+    pub lossy-own : {out' : List ℕ} → out' ≡ put out 0 s → WritesLossy s out (lossyReply.Written n r) out'
+    lossy-own w =
+        let l = length-is e in
+        let t : leb (length (lossy s)) (length out) ≡ true = le-leb (length (lossy s)) (length out) (omega (arith, l)) in
+        record {
+          reply = simp t (ap₂ (λ (b k : ℕ). lossyReply.Written b k) (l .0) (l .1));
+          buffer = simp t (w ∙ ap (put out 0) is-own ∙ put-front out (lossy s));
+        }
 
   pub lossy-past : length out < 2 ^ 64 - 1 → x ≡ measure.TooLong → WritesLossy s out (lossyReply.TooShort 18446744073709551615) out
   lossy-past h e =

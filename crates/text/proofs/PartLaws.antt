@@ -8,9 +8,11 @@ use native.Mathlib.Omega.{arith}
 use borrow.Author.Tests.{le-ltb, ltb-true, ltb-false, leb-true}
 use lib.Dec.{ltb, leb, eqb}
 use lib.ListN.{length, getD}
+use Rattle.text.specs.declared.utf8.Extent.{Extent}
+use Rattle.text.specs.declared.utf8.Extent.the-variants as extent
 use Rattle.text.specs.declared.utf8.Step.{Step}
 use Rattle.text.specs.declared.utf8.Step.the-variants.{Scalar, IllFormed, End}
-use Rattle.text.specs.Utf8.{sequenceLength, matched, wholeAt, nextAt, stepAt, valueAt, Part, sequence, illFormed, before, partsCount, partsFrom}
+use Rattle.text.specs.Utf8.{sequenceLength, matched, wholeAt, nextAt, stepAt, extentStep, valueHere, AsciiRun, valueAt, Part, sequence, illFormed, before, partsCount, partsFrom}
 use Rattle.text.proofs.StepLaws.{has-at}
 
 -- ---- a step goes on, and stays within s
@@ -170,3 +172,31 @@ module _ (s : List ℕ) (i : ℕ) {x : Step} (e : x ≡ stepAt s i) where
       omega (arith, a)
 
 pub ruleset less = (scalar-less, ill-formed-less)
+
+-- the same by extents and runs
+module _ (s : List ℕ) (i : ℕ) where
+  pub run-less : {j : ℕ} → i < length s → AsciiRun s (i + 1) j → left s j < left s i
+  unfolding left
+  run-less h r = omega (arith, r .on)
+
+  module _ {x : Extent} (e : stepAt s i ≡ extentStep x (valueHere s i)) where
+    whole-on : {next : ℕ} → x ≡ extent.Whole next → Advances s i next
+    unfolding extentStep
+    whole-on g = step-reads s i (rw g at e) .advance
+
+    broken-on : {next : ℕ} → x ≡ extent.IllFormed next → Advances s i next
+    unfolding extentStep
+    broken-on g = step-breaks s i (rw g at e) .advance
+
+    pub whole-less : {next : ℕ} → x ≡ extent.Whole next → left s next < left s i
+    unfolding left
+    whole-less g = omega (arith, whole-on g)
+
+    pub broken-after : {next : ℕ} → x ≡ extent.IllFormed next → i ≤ next
+    broken-after g = omega (arith, broken-on g)
+
+    pub broken-less : {next : ℕ} → x ≡ extent.IllFormed next → left s next < left s i
+    unfolding left
+    broken-less g = omega (arith, broken-on g)
+
+pub ruleset extent-less = (run-less, whole-less, broken-less)

@@ -1,6 +1,6 @@
 // UTF-16 as the Unicode Standard, chapter 3, has it: one decoding step, and the UTF-8 text of code units.
 use crate::error::MatError;
-use crate::utf8::put_scalar;
+use crate::utf8::put_bytes;
 use crate::utf8::utf8_len;
 ghost use mathlib.Core.Path.{_≡_};
 ghost use mathlib.Core.Option.{Option·map};
@@ -42,16 +42,19 @@ fn unit_at(units: &[u16], i: usize) -> u16
     if i < units.len() { units[i] } else { 0 }
 }
 
-// One step of decoding at a unit that is there.
+// One step of decoding at a unit that is there. Most need no second unit.
 fn step_at(units: &[u16], i: usize) -> UnitStep
     requires { ⌜ i < length (now units) ⌝ }
     ensures { λ r. ⌜ r ≡ unitStepAt (now (units .entry)) i ⌝ }
 {
-    unit_step(
-        unit_at(units, i),
-        unit_at(units, i + 1),
-        i + 1 < units.len(),
-    )
+    let first = units[i];
+    if first < 0xD800 {
+        return UnitStep::Scalar {
+            value: first as u32,
+            units: 1,
+        };
+    }
+    unit_step(first, unit_at(units, i + 1), i + 1 < units.len())
 }
 
 // The length in bytes of the text of code units, or that a surrogate has no partner. A unit gives at most three bytes, and a slice
@@ -90,7 +93,7 @@ fn put_text(units: &[u16], out: &mut [u8])
     while i < units.len() {
         match step_at(units, i) {
             UnitStep::Scalar { value, units: n } => {
-                o = put_scalar(value, out, o);
+                o = put_bytes(value, out, o);
                 i += n;
             }
             UnitStep::Unpaired => {

@@ -1,11 +1,12 @@
 // UTF-8 as the Unicode Standard, chapter 3, has it: one decoding step, well-formedness, and the repaired text of ill-formed bytes.
 ghost use mathlib.Core.Path.{_≡_};
+ghost use mathlib.Core.Bool.{true};
 ghost use Prim.Native.Nat.{_+_, _≤_, _<_};
-ghost use lib.ListN.{length};
+ghost use lib.ListN.{length, getD};
 ghost use Rattle.text.specs.Buffer.{same, put, Places, Fills};
 ghost use Rattle.text.specs.Replies.{unitsFrom, validityPlace, CountsUnits, lossyLength, WritesLossy};
 ghost use Rattle.text.specs.Unicode.{isScalar, utf8, utf16, encoded};
-ghost use Rattle.text.specs.Utf8.{sequenceLength, secondRange, hasIn, stepAt, stepHas, partsFrom, firstIllFormed, lossy, lossySequences};
+ghost use Rattle.text.specs.Utf8.{sequenceLength, secondRange, hasIn, stepAt, stepHas, extentStep, valueHere, AsciiRun, partsFrom, firstIllFormed, lossy, lossySequences};
 
 // The range of a byte, both ends in it.
 pub struct Range {
@@ -137,6 +138,92 @@ fn sequence_at(s: &[u8], at: usize) -> Step
     }
 }
 
+// What decoding finds, without the scalar value: a sequence or a maximal ill-formed part, by the position past it.
+enum Extent {
+    Whole(usize),
+    IllFormed(usize),
+}
+
+// The extent of what stands at a byte that is not ASCII. A sequence of two bytes, the commonest, is answered first.
+fn extent_at(s: &[u8], at: usize) -> Extent
+    requires { ⌜ (at < length (now s)) × (128 ≤ getD (now s) at 0) ⌝ }
+    ensures { λ r. ⌜ stepAt (now (s .entry)) at ≡ extentStep r (valueHere (now (s .entry)) at) ⌝ }
+{
+    let lead = s[at];
+    if lead < 0xC2 || 0xF4 < lead {
+        return Extent::IllFormed(at + 1);
+    }
+    if lead < 0xE0 {
+        if !has(s, at + 1, 0x80, 0xBF) {
+            return Extent::IllFormed(at + 1);
+        }
+        return Extent::Whole(at + 2);
+    }
+    let range = second_range(lead);
+    if !has(s, at + 1, range.low, range.high) {
+        return Extent::IllFormed(at + 1);
+    }
+    if !has(s, at + 2, 0x80, 0xBF) {
+        return Extent::IllFormed(at + 2);
+    }
+    if lead < 0xF0 {
+        return Extent::Whole(at + 3);
+    }
+    if !has(s, at + 3, 0x80, 0xBF) {
+        return Extent::IllFormed(at + 3);
+    }
+    Extent::Whole(at + 4)
+}
+
+// Whether eight bytes from i on are there and ASCII: read before they are tested, so that they can be tested at once.
+fn ascii_block(s: &[u8], i: usize) -> bool
+    requires { ⌜ i ≤ length (now s) ⌝ }
+    ensures { λ r. ⌜ (r ≡ true → AsciiRun (now (s .entry)) i (i + 8)) ⌝ }
+{
+    if s.len() - i < 8 {
+        return false;
+    }
+    let a = s[i];
+    let b = s[i + 1];
+    let c = s[i + 2];
+    let d = s[i + 3];
+    let e = s[i + 4];
+    let f = s[i + 5];
+    let g = s[i + 6];
+    let h = s[i + 7];
+    if 0x7F < a
+        || 0x7F < b
+        || 0x7F < c
+        || 0x7F < d
+        || 0x7F < e
+        || 0x7F < f
+        || 0x7F < g
+        || 0x7F < h
+    {
+        return false;
+    }
+    true
+}
+
+// The end of the ASCII bytes from at on.
+fn ascii_end(s: &[u8], at: usize) -> usize
+    requires { ⌜ at ≤ length (now s) ⌝ }
+    ensures { λ r. ⌜ AsciiRun (now (s .entry)) at r ⌝ }
+{
+    let mut i = at;
+    while i < s.len() {
+        if 0x7F < s[i] {
+            return i;
+        }
+        if ascii_block(s, i) {
+            i += 8;
+        } else {
+            i += 1;
+        }
+    }
+    i
+}
+
 // Whether a number is a Unicode scalar value.
 pub fn is_scalar(value: u32) -> bool
     ensures { λ r. ⌜ r ≡ isScalar value ⌝ }
@@ -222,7 +309,7 @@ pub fn put_scalar(value: u32, out: &mut [u8], at: usize) -> usize
 }
 
 // The same where the bytes fit.
-fn put_bytes(value: u32, out: &mut [u8], at: usize) -> usize
+pub(crate) fn put_bytes(value: u32, out: &mut [u8], at: usize) -> usize
     requires { ⌜ (value < 1114112) × (at + length (utf8 value) ≤ length (now out)) ⌝ }
     ensures { λ r. ⌜ r ≡ at + length (utf8 value) ⌝ }
     ensures { λ _. ⌜ now (out .exit) ≡ put (now (out .entry)) at (utf8 value) ⌝ }
@@ -301,31 +388,33 @@ pub enum LossyLength {
 pub fn lossy_length(s: &[u8]) -> LossyLength
     ensures { λ r. ⌜ r ≡ lossyLength (now (s .entry)) ⌝ }
 {
-    let mut bytes: usize = 0;
+    // how many of the bytes before i are in ill-formed parts: the others are kept
+    let mut broken: usize = 0;
     let mut replaced: usize = 0;
     let mut i: usize = 0;
-    loop {
-        match step_at(s, i) {
-            Step::Scalar { value, next } => {
-                let n = utf8_len(value);
-                if 0xFFFF_FFFF_FFFF_FFFF - bytes < n {
-                    return LossyLength::TooLong;
+    while i < s.len() {
+        if s[i] < 0x80 {
+            i = ascii_end(s, i + 1);
+        } else {
+            match extent_at(s, i) {
+                Extent::Whole(next) => {
+                    i = next;
                 }
-                bytes += n;
-                i = next;
-            }
-            Step::IllFormed { next } => {
-                if 0xFFFF_FFFF_FFFF_FFFF - bytes < 3 {
-                    return LossyLength::TooLong;
+                Extent::IllFormed(next) => {
+                    broken += next - i;
+                    replaced += 1;
+                    i = next;
                 }
-                bytes += 3;
-                replaced += 1;
-                i = next;
-            }
-            Step::End => {
-                return LossyLength::Length { bytes, replaced };
             }
         }
+    }
+    let kept = i - broken;
+    if (0xFFFF_FFFF_FFFF_FFFF - kept) / 3 < replaced {
+        return LossyLength::TooLong;
+    }
+    LossyLength::Length {
+        bytes: kept + 3 * replaced,
+        replaced,
     }
 }
 
@@ -353,6 +442,18 @@ pub fn put_lossy(s: &[u8], out: &mut [u8], at: usize) -> usize
     }
 }
 
+// Writes s to the start of out, which is long enough for it.
+fn put_all(s: &[u8], out: &mut [u8])
+    requires { ⌜ length (now s) ≤ length (now out) ⌝ }
+    ensures { λ _. ⌜ now (out .exit) ≡ put (now (out .entry)) 0 (now (s .entry)) ⌝ }
+{
+    let mut i: usize = 0;
+    while i < s.len() {
+        out[i] = s[i];
+        i += 1;
+    }
+}
+
 // What writing a repaired text came to: its bytes and the number of replaced parts, or the bytes that it needs.
 pub enum LossyReply {
     Written { bytes: usize, replaced: usize },
@@ -360,7 +461,7 @@ pub enum LossyReply {
 }
 
 // Writes the repaired text of s, in which each maximal ill-formed part is EF BF BD, to the start of out, or nothing where out is too
-// short for all of it.
+// short for all of it. A text in which nothing is replaced is its own repaired text.
 pub fn write_lossy(s: &[u8], out: &mut [u8]) -> LossyReply
     ensures { λ r. ⌜ WritesLossy (now (s .entry)) (now (out .entry)) r (now (out .exit)) ⌝ }
 {
@@ -368,6 +469,10 @@ pub fn write_lossy(s: &[u8], out: &mut [u8]) -> LossyReply
         LossyLength::Length { bytes, replaced } => {
             if out.len() < bytes {
                 return LossyReply::TooShort(bytes);
+            }
+            if replaced == 0 {
+                put_all(s, out);
+                return LossyReply::Written { bytes, replaced };
             }
             put_lossy(s, out, 0);
             LossyReply::Written { bytes, replaced }

@@ -4,10 +4,10 @@ use mathlib.Core.Path.{_≡_, refl, _∙_, sym, ap, subst}
 use mathlib.Core.Bool.{Bool, true, false, cond}
 use mathlib.Core.List.{List, [], _∷_, _++_, append-assoc, append-nil}
 use mathlib.Core.Option.{some}
-use Prim.Native.Nat.{ℕ, zero, suc, _+_, _-_, _*_, _/_, _%_, _≤_, _<_}
+use Prim.Native.Nat.{ℕ, zero, suc, _+_, _-_, _*_, _/_, _%_, _^_, _≤_, _<_}
 use native.Mathlib.Omega.{arith}
-use borrow.Author.Tests.{eq-eqb, ne-eqb, eqb-true, eqb-false}
-use lib.Dec.{eqb}
+use borrow.Author.Tests.{eq-eqb, ne-eqb, eqb-true, eqb-false, ltb-false}
+use lib.Dec.{eqb, ltb}
 use lib.ListN.{length, getD, set, replicate, length-append, length-set, length-replicate, replicate-append-replicate}
 use lib.Seq.{set-comm}
 use Rattle.text.specs.Buffer.{put}
@@ -18,13 +18,14 @@ use Rattle.text.specs.declared.utf8.Step.{Step}
 use Rattle.text.specs.declared.utf8.Step.the-variants.{Scalar, IllFormed, End}
 use Rattle.text.specs.declared.utf8.Units.{Units}
 use Rattle.text.proofs.BufferLaws.{put-none, put-one}
-use Rattle.text.proofs.PartLaws.{step-reads, step-end, parts-scalar, parts-ill-formed, parts-end}
-use Rattle.text.proofs.ScalarLaws.{is-scalar, lengths, below-append, utf16s-nil, utf16s-cons}
+use Rattle.text.proofs.LeadLaws.{step-1}
+use Rattle.text.proofs.PartLaws.{step-reads, step-end, parts-scalar, parts-ill-formed, parts-end, left, scalar-less}
+use Rattle.text.proofs.ScalarLaws.{is-scalar, lengths, below-append, utf16-1, utf16s-nil, utf16s-cons}
 use Rattle.text.proofs.TestLaws.{cond-both}
 use Rattle.text.proofs.Utf8Laws.{map-is, not-some, step-took}
 use Rattle.writer.specs.Array.{stringUnits}
 use Rattle.writer.specs.declared.packing.Carry.{Carry}
-use Rattle.writer.specs.Packing.{Packer, fresh, push, pushes, padding, Pushed, Packable}
+use Rattle.writer.specs.Packing.{Packer, fresh, push, pushes, padding, Pushed, Packable, PackableFrom, SequenceAt, Ascii, PushedAscii}
 use Rattle.writer.specs.Words.{packed}
 use Rattle.writer.proofs.WordLaws.{length-packed, whole, window, length-whole, window-snoc, whole-keeps, whole-fills, packed-whole, packed-zero}
 
@@ -106,6 +107,22 @@ module _ (first : ℕ) (d : List ℕ) (c : Carry) (u : ℕ) where
       → Pushed first d c (u ∷ []) (set d (first + c .count / 4) (c .word / 65536 + u * 281474976710656)) (record { word = c .word / 65536 + u * 281474976710656; count = c .count + 1 })
   unfolding pushes push
   stores e = record { is = simp (eq-eqb ((c .count + 1) % 4) 0 e) }
+
+same-stored : {first : ℕ} {d : List ℕ} {c : Carry} {us : List ℕ} {k w n k' w' n' : ℕ} → k ≡ k' → w ≡ w' → n ≡ n'
+    → Pushed first d c us (set d k w) (record { word = w; count = n }) → Pushed first d c us (set d k' w') (record { word = w'; count = n' })
+same-stored a b e p = rw (← a, ← b, ← e) p
+
+-- the return of `push_four`
+pub stores-four : (first : ℕ) (d : List ℕ) (c : Carry) (u v w x : ℕ) → c .count % 4 ≡ 0 → c .word < 2 ^ 64 → u < 65536 → v < 65536 → w < 65536
+    → Pushed first d c (u ∷ v ∷ w ∷ x ∷ []) (set d (first + c .count / 4) (u + v * 65536 + w * 4294967296 + x * 281474976710656))
+    (record { word = u + v * 65536 + w * 4294967296 + x * 281474976710656; count = c .count + 4 })
+stores-four first d c u v w x z l hu hv hw =
+    let c₁ : Carry = record { word = c .word / 65536 + u * 281474976710656; count = c .count + 1 } in
+    let c₂ : Carry = record { word = c₁ .word / 65536 + v * 281474976710656; count = c₁ .count + 1 } in
+    let c₃ : Carry = record { word = c₂ .word / 65536 + w * 281474976710656; count = c₂ .count + 1 } in
+    same-stored (omega arith) (omega arith) (omega arith)
+    (pushed-then (keeps first d c u (λ e. omega arith))
+    (pushed-then (keeps first d c₁ v (λ e. omega arith)) (pushed-then (keeps first d c₂ w (λ e. omega arith)) (stores first d c₃ x (omega arith)))))
 
 -- ---- what is left in the words
 
@@ -228,6 +245,53 @@ module _ (v : ℕ) {r : Units} (s : isScalar v ≡ true) (e : r ≡ unitsFrom (e
         rw (two-of (utf16 v) (omega (arith, units-count)) (lengths v .most))
         (subst (λ (x : Units). Pushed first d c (x .first ∷ x .second ∷ []) d'' c'') units-is (pushed-then p q))
 
+-- ---- ASCII bytes, each of which is its own unit
+
+ascii-within : (t : List ℕ) (i : ℕ) (us : List ℕ) → Ascii t i us → 1 ≤ length us → i + length us ≤ length t
+ascii-within t i [] a h = absurd (omega arith)
+ascii-within t i (u ∷ []) a h = omega (arith, a .0)
+ascii-within t i (u ∷ w ∷ us) a h = omega (arith, ascii-within t (i + 1) (w ∷ us) (a .1 .1 .1) (omega arith))
+
+-- they are among the units that are left
+ascii-most : (t : List ℕ) (i : ℕ) (us : List ℕ) → Ascii t i us → {more : List ℕ} → scalarsOf (partsFrom t i) ≡ some more → length us ≤ length (utf16s more)
+unfolding scalarsOf
+ascii-most t i [] a e = omega arith
+ascii-most t i (u ∷ us) a {more} e =
+    let o = map-is (λ vs. u ∷ vs) (scalarsOf (partsFrom t (i + 1))) (rw (parts-scalar t i (step-1 t i u (a .1 .0) (a .0) (a .1 .1 .0))) at e) in
+    let n : length (utf16s more) ≡ length (utf16 u ++ utf16s (o .0)) = ap length (ap utf16s (o .1 .1) ∙ utf16s-cons u (o .0)) in
+    omega (arith, ascii-most t (i + 1) us (a .1 .1 .1) (o .1 .0), n, length-append (utf16 u) (utf16s (o .0)), lengths u .least)
+
+module _ (t : List ℕ) (i first : ℕ) (d : List ℕ) (c : Carry) (here : i < length t) (low : getD t i 0 < 128) where
+  pub ascii-one-room : PackableFrom t i first (c .count) (length d) → first + (c .count + 1) / 4 ≤ length d
+  ascii-one-room f = omega (arith, f .fits, ascii-most t i (getD t i 0 ∷ []) (here, (refl, (low, tt))) (f .rest))
+
+  pub ascii-one : {d' : List ℕ} {c' : Carry} → Pushed first d c (getD t i 0 ∷ []) d' c' → PushedAscii t i first d c d' c'
+  ascii-one p = record { units = getD t i 0 ∷ []; ascii = (here, (refl, (low, tt))); some = omega arith; pushed = p }
+
+  module _ (l : 4 ≤ length t - i) (l₁ : getD t (i + 1) 0 ≤ 127) (t₂ : ltb 127 (getD t (i + 2) 0) ≡ false) (t₃ : ltb 127 (getD t (i + 3) 0) ≡ false) where
+    l₂ : getD t (i + 2) 0 ≤ 127
+    l₂ = ltb-false 127 (getD t (i + 2) 0) t₂
+
+    l₃ : getD t (i + 3) 0 ≤ 127
+    l₃ = ltb-false 127 (getD t (i + 3) 0) t₃
+
+    abbrev four : List ℕ
+    four = getD t i 0 ∷ getD t (i + 1) 0 ∷ getD t (i + 2) 0 ∷ getD t (i + 3) 0 ∷ []
+
+    ascii-these : Ascii t i four
+    ascii-these =
+        let two : i + 1 + 1 ≡ i + 2 = omega arith in
+        let three : i + 2 + 1 ≡ i + 3 = omega arith in
+        let last : Ascii t (i + 2 + 1) (getD t (i + 3) 0 ∷ []) = rw three (omega arith, (refl, (omega (arith, l₃), tt))) in
+        let third : Ascii t (i + 1 + 1) (getD t (i + 2) 0 ∷ getD t (i + 3) 0 ∷ []) = rw two (omega arith, (refl, (omega (arith, l₂), last))) in
+        (here, (refl, (low, (omega arith, (refl, (omega arith, third))))))
+
+    pub ascii-four-room : PackableFrom t i first (c .count) (length d) → first + (c .count + 4) / 4 ≤ length d
+    ascii-four-room f = omega (arith, f .fits, ascii-most t i four ascii-these (f .rest))
+
+    pub ascii-four : {d' : List ℕ} {c' : Carry} → Pushed first d c four d' c' → PushedAscii t i first d c d' c'
+    ascii-four p = record { units = four; ascii = ascii-these; some = omega arith; pushed = p }
+
 -- ---- the units of a text
 
 -- the units done are pushed, and the scalar values more are left
@@ -244,11 +308,16 @@ module _ (t : List ℕ) (first : ℕ) (d₀ : List ℕ) (c₀ : Carry) (room : P
       let o = map-is utf16s (scalars8 t) (room .well-formed) in
       record { done = []; more = o .0; rest = o .1 .0; whole = o .1 .1; pushed = pushed-none }
 
-  module _ {d : List ℕ} {c : Carry} {i : ℕ} {x : Step} (m : Pushing t first d₀ c₀ d c i) (e : x ≡ stepAt t i) where
-    module _ {v next : ℕ} (g : x ≡ Scalar v next) where
+  module _ {d : List ℕ} {c : Carry} {i : ℕ} (m : Pushing t first d₀ c₀ d c i) where
+    pub push-from : PackableFrom t i first (c .count) (length d)
+    push-from =
+        let n = simp length-append at (ap length (m .whole)) in
+        record { more = m .more; rest = m .rest; fits = omega (arith, n, pushed-count (m .pushed), pushed-length (m .pushed), room .fits) }
+
+    module _ {v next : ℕ} (g : stepAt t i ≡ Scalar v next) where
       split : (us : List ℕ) × ((scalarsOf (partsFrom t next) ≡ some us) × (m .more ≡ v ∷ us))
       unfolding scalarsOf
-      split = map-is (λ us. v ∷ us) (scalarsOf (partsFrom t next)) (rw (parts-scalar t i (sym e ∙ g)) at (m .rest))
+      split = map-is (λ us. v ∷ us) (scalarsOf (partsFrom t next)) (rw (parts-scalar t i g) at (m .rest))
 
       longer : stringUnits t ≡ (m .done ++ utf16 v) ++ utf16s (split .0)
       longer =
@@ -258,7 +327,7 @@ module _ (t : List ℕ) (first : ℕ) (d₀ : List ℕ) (c₀ : Carry) (room : P
           ∙ sym (append-assoc (m .done) (utf16 v) (utf16s (split .0)))
 
       pub push-value : isScalar v ≡ true
-      push-value = is-scalar (step-took t i v next (step-reads t i (sym e ∙ g)) .scalar)
+      push-value = is-scalar (step-took t i v next (step-reads t i g) .scalar)
 
       pub push-room : first + (c .count + length (utf16 v)) / 4 ≤ length d
       push-room =
@@ -268,18 +337,60 @@ module _ (t : List ℕ) (first : ℕ) (d₀ : List ℕ) (c₀ : Carry) (room : P
       pub push-turn : {d' : List ℕ} {c' : Carry} → Pushed first d c (utf16 v) d' c' → Pushing t first d₀ c₀ d' c' next
       push-turn p = record { done = m .done ++ utf16 v; more = split .0; rest = split .1 .0; whole = longer; pushed = pushed-then (m .pushed) p }
 
-    pub push-last : x ≡ End → Pushed first d₀ c₀ (stringUnits t) d c
+    sequence-by : (x : Step) → stepAt t i ≡ x → i < length t → 128 ≤ getD t i 0 → SequenceAt t i
     unfolding scalarsOf
-    push-last g =
-        let o : some [] ≡ some (m .more) = rw (parts-end t i (step-end t i (sym e ∙ g))) at (m .rest) in
+    sequence-by (Scalar v next) g h l = record { value = v; next = next; is = g; long = l }
+    sequence-by (IllFormed next) g h l = not-some (rw (parts-ill-formed t i g) at (m .rest))
+    sequence-by End g h l = absurd (omega (arith, step-end t i g))
+
+    pub push-sequence : i < length t → 128 ≤ getD t i 0 → SequenceAt t i
+    push-sequence h l = sequence-by (stepAt t i) refl h l
+
+    pub push-last : length t ≤ i → Pushed first d₀ c₀ (stringUnits t) d c
+    unfolding scalarsOf
+    push-last h =
+        let o : some [] ≡ some (m .more) = rw (parts-end t i h) at (m .rest) in
         let n : m .more ≡ [] = cc in
         let w : stringUnits t ≡ m .done =
         m .whole ∙ ap (λ (vs : List ℕ). m .done ++ utf16s vs) n ∙ ap (λ (us : List ℕ). m .done ++ us) utf16s-nil ∙ append-nil (m .done) in
         subst (λ (us : List ℕ). Pushed first d₀ c₀ us d c) (sym w) (m .pushed)
 
-    pub push-never : {next : ℕ} → x ≡ IllFormed next → Pushed first d₀ c₀ (stringUnits t) d c
-    unfolding scalarsOf
-    push-never g = not-some (rw (parts-ill-formed t i (sym e ∙ g)) at (m .rest))
+  -- ASCII bytes, one after another
+  ascii-turns : (i : ℕ) (us : List ℕ) → Ascii t i us → (p : Packer) → Pushing t first d₀ c₀ (p .words) (p .carry) i
+      → Pushing t first d₀ c₀ (pushes first p us .words) (pushes first p us .carry) (i + length us)
+  unfolding pushes
+  ascii-turns i [] a p m =
+      let z : i + 0 ≡ i = omega arith in
+      rw z m
+  ascii-turns i (u ∷ us) a p m =
+      let n : i + suc (length us) ≡ i + 1 + length us = omega arith in
+      let g : stepAt t i ≡ Scalar u (i + 1) = step-1 t i u (a .1 .0) (a .0) (a .1 .1 .0) in
+      let one : Pushed first (p .words) (p .carry) (utf16 u) (push first p u .words) (push first p u .carry) =
+      rw (utf16-1 u (omega (arith, a .1 .1 .0))) (record { is = refl }) in
+      rw n (ascii-turns (i + 1) us (a .1 .1 .1) (push first p u) (push-turn m g one))
+
+  module _ {d : List ℕ} {c : Carry} {i : ℕ} {d' : List ℕ} {c' : Carry} (q : PushedAscii t i first d c d' c') where
+    ascii-count : c' .count - c .count ≡ length (q .units)
+    ascii-count = omega (arith, pushed-count (q .pushed))
+
+    pub ascii-turn : Pushing t first d₀ c₀ d c i → Pushing t first d₀ c₀ d' c' (i + (c' .count - c .count))
+    ascii-turn m =
+        rw ascii-count
+        (subst (λ (p : Packer). Pushing t first d₀ c₀ (p .words) (p .carry) (i + length (q .units))) (sym (q .pushed .is))
+        (ascii-turns i (q .units) (q .ascii) (record { words = d; carry = c }) m))
+
+    ascii-inside : i + (c' .count - c .count) ≤ length t
+    ascii-inside = rw ascii-count (ascii-within t i (q .units) (q .ascii) (q .some))
+
+    pub ascii-fits : length t < 2 ^ 64 → i + (c' .count - c .count) < 2 ^ 64
+    ascii-fits h = omega (arith, ascii-inside)
+
+    pub ascii-less : left t (i + (c' .count - c .count)) < left t i
+    unfolding left
+    ascii-less = omega (arith, ascii-inside, ascii-count, q .some)
+
+pub sequence-less : (t : List ℕ) (i : ℕ) {v next : ℕ} → stepAt t i ≡ Scalar v next → left t next < left t i
+sequence-less t i g = scalar-less t i refl g
 
 -- ---- the zeros that fill the last word
 

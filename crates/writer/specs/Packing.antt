@@ -1,13 +1,15 @@
 -- Code units pushed one by one into words: a word is stored when its fourth unit comes.
 -- Assumes nothing.
-use Prim.Native.Nat.{ℕ, _+_, _-_, _*_, _/_, _%_, _≤_}
+use Prim.Native.Nat.{ℕ, _+_, _-_, _*_, _/_, _%_, _≤_, _<_}
 use mathlib.Core.Path.{_≡_}
 use mathlib.Core.Bool.{cond}
 use mathlib.Core.List.{List, [], _∷_}
 use mathlib.Core.Option.{some}
 use lib.Dec.{eqb}
-use lib.ListN.{length, set, replicate}
-use Rattle.text.specs.Utf8.{unitsOf}
+use lib.ListN.{length, getD, set, replicate}
+use Rattle.text.specs.Unicode.{utf16s}
+use Rattle.text.specs.Utf8.{stepAt, partsFrom, scalarsOf, unitsOf}
+use Rattle.text.specs.declared.utf8.Step.the-variants.{Scalar}
 use Rattle.writer.specs.Array.{stringUnits}
 use Rattle.writer.specs.declared.packing.Carry.{Carry}
 
@@ -45,3 +47,28 @@ pub record Pushed (first : ℕ) (d : List ℕ) (c : Carry) (us d' : List ℕ) (c
 pub record Packable (text : List ℕ) (first count room : ℕ) : Type 0 where
   pub well-formed : unitsOf text ≡ some (stringUnits text)
   pub fits : first + (count + length (stringUnits text)) / 4 ≤ room
+
+-- the same from index i on: the scalar values more are left
+pub record PackableFrom (text : List ℕ) (i first count room : ℕ) : Type 0 where
+  pub more : List ℕ
+  pub rest : scalarsOf (partsFrom text i) ≡ some more
+  pub fits : first + (count + length (utf16s more)) / 4 ≤ room
+
+-- the text has a well-formed sequence at index i, and not of one byte
+pub record SequenceAt (text : List ℕ) (i : ℕ) : Type 0 where
+  pub value : ℕ
+  pub next : ℕ
+  pub is : stepAt text i ≡ Scalar value next
+  pub long : 128 ≤ getD text i 0
+
+-- the text has the ASCII bytes us from index i on
+abbrev pub Ascii : List ℕ → ℕ → List ℕ → Type 0
+Ascii text i [] = Unit
+Ascii text i (u ∷ us) = (i < length text) × ((getD text i 0 ≡ u) × ((u < 128) × Ascii text (i + 1) us))
+
+-- ASCII bytes of the text from index i on, one at least, are pushed
+pub record PushedAscii (text : List ℕ) (i first : ℕ) (d : List ℕ) (c : Carry) (d' : List ℕ) (c' : Carry) : Type 0 where
+  pub units : List ℕ
+  pub ascii : Ascii text i units
+  pub some : 1 ≤ length units
+  pub pushed : Pushed first d c units d' c'

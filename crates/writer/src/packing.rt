@@ -1,17 +1,17 @@
 // Code units packed into words, four to a word.
 use text::convert::to_usize;
-use text::utf8::Step;
-use text::utf8::step_at;
 use text::utf8::utf16_units;
 ghost use mathlib.Core.Path.{_≡_};
 ghost use mathlib.Core.Bool.{true};
 ghost use mathlib.Core.List.{[], _∷_};
-ghost use Prim.Native.Nat.{_+_, _/_, _≤_};
-ghost use lib.ListN.{length};
+ghost use Prim.Native.Nat.{_+_, _/_, _%_, _≤_, _<_};
+ghost use lib.ListN.{length, getD};
 ghost use Rattle.text.specs.Buffer.{put};
 ghost use Rattle.text.specs.Unicode.{isScalar, utf16};
+ghost use Rattle.text.specs.Utf8.{stepAt};
+ghost use Rattle.text.specs.declared.utf8.Step.the-variants.{Scalar};
 ghost use Rattle.writer.specs.Array.{stringUnits, stringWords};
-ghost use Rattle.writer.specs.Packing.{padding, Pushed, Packable};
+ghost use Rattle.writer.specs.Packing.{padding, Pushed, Packable, PackableFrom, SequenceAt, PushedAscii};
 ghost use Rattle.writer.specs.Spans.{stringAt, stringsIn};
 ghost use Rattle.writer.specs.Stages.{StringsFit, StringFits};
 
@@ -49,27 +49,95 @@ fn push_scalar(words: &mut [u64], first: usize, carry: Carry, value: u32) -> Car
     push_unit(words, first, one, units.second)
 }
 
-// Pushes the units of a text.
+// Pushes four bytes that fill a word, each as a unit.
+fn push_four(words: &mut [u64], first: usize, carry: Carry, a: u8, b: u8, c: u8, d: u8) -> Carry
+    requires { ⌜ (carry .count % 4 ≡ 0) × (first + (carry .count + 4) / 4 ≤ length (now words)) ⌝ }
+    ensures { λ r. ⌜ Pushed first (now (words .entry)) carry (a ∷ b ∷ c ∷ d ∷ []) (now (words .exit)) r ⌝ }
+{
+    let low = a as u64 + b as u64 * 65536;
+    let word = low + c as u64 * 4294967296 + d as u64 * 281474976710656;
+    let at = first + carry.count / 4;
+    words[at] = word;
+    Carry {
+        word,
+        count: carry.count + 4,
+    }
+}
+
+// Pushes ASCII bytes from index i on, each of which is its own unit: four where they fill a word, and one otherwise.
+fn push_ascii(text: &[u8], i: usize, words: &mut [u64], first: usize, carry: Carry) -> Carry
+    requires { ⌜ (i < length (now text)) × (getD (now text) i 0 < 128) ⌝ }
+    requires { ⌜ PackableFrom (now text) i first (carry .count) (length (now words)) ⌝ }
+    ensures { λ r. ⌜ PushedAscii (now (text .entry)) i first (now (words .entry)) carry (now (words .exit)) r ⌝ }
+{
+    let a = text[i];
+    if carry.count % 4 != 0 {
+        return push_unit(words, first, carry, a as u16);
+    }
+    if text.len() - i < 4 {
+        return push_unit(words, first, carry, a as u16);
+    }
+    let b = text[i + 1];
+    let c = text[i + 2];
+    let d = text[i + 3];
+    if 0x7F < b || 0x7F < c || 0x7F < d {
+        return push_unit(words, first, carry, a as u16);
+    }
+    push_four(words, first, carry, a, b, c, d)
+}
+
+// A scalar value of a text, and the index after its bytes.
+pub(crate) struct Sequence {
+    value: u32,
+    next: usize,
+}
+
+// The sequence of two bytes or more at index i of a well-formed text, where the first byte alone tells its length.
+fn sequence_at(text: &[u8], i: usize) -> Sequence
+    requires { ⌜ SequenceAt (now text) i ⌝ }
+    ensures { λ r. ⌜ stepAt (now (text .entry)) i ≡ Scalar (r .value) (r .next) ⌝ }
+{
+    let lead = text[i];
+    let b = (text[i + 1] % 64) as u32;
+    if lead < 0xE0 {
+        return Sequence {
+            value: (lead % 32) as u32 * 64 + b,
+            next: i + 2,
+        };
+    }
+    let c = (text[i + 2] % 64) as u32;
+    if lead < 0xF0 {
+        return Sequence {
+            value: (lead % 16) as u32 * 4096 + b * 64 + c,
+            next: i + 3,
+        };
+    }
+    let d = (text[i + 3] % 64) as u32;
+    Sequence {
+        value: (lead % 8) as u32 * 262144 + b * 4096 + c * 64 + d,
+        next: i + 4,
+    }
+}
+
+// Pushes the units of a text that was measured, so that each sequence in it is well-formed.
 fn push_text(text: &[u8], words: &mut [u64], first: usize, carry: Carry) -> Carry
     requires { ⌜ Packable (now text) first (carry .count) (length (now words)) ⌝ }
     ensures { λ r. ⌜ Pushed first (now (words .entry)) carry (stringUnits (now (text .entry))) (now (words .exit)) r ⌝ }
 {
     let mut last = carry;
     let mut i: usize = 0;
-    loop {
-        match step_at(text, i) {
-            Step::Scalar { value, next } => {
-                last = push_scalar(words, first, last, value);
-                i = next;
-            }
-            Step::IllFormed { next: _ } => {
-                return last;
-            }
-            Step::End => {
-                return last;
-            }
+    while i < text.len() {
+        if text[i] < 0x80 {
+            let more = push_ascii(text, i, words, first, last);
+            i += more.count - last.count;
+            last = more;
+            continue;
         }
+        let sequence = sequence_at(text, i);
+        last = push_scalar(words, first, last, sequence.value);
+        i = sequence.next;
     }
+    last
 }
 
 // Fills the last word with zeros.

@@ -1,7 +1,7 @@
 -- `reader::units::step_at` meets its contract.
 -- Assumes nothing.
 use borrow.Author.Needs.{needs}
-use Rattle.reader.proofs.UnitLaws.{step-last, step-more}
+use Rattle.reader.proofs.UnitLaws.{step-one, step-last, step-more}
 use Rattle.reader.proofs.units.step_at.Statement.{statement}
 use Rattle.reader.proofs.units.step_at.Tie as tie
 
@@ -11,6 +11,8 @@ step-at-spec =
     (tie.spec
     (λ c. search needs)
     (λ c κs. search needs)
+    (λ c. search needs)
+    (λ c. search (step-one, needs))
     (λ c. search needs)
     (λ c κs. search needs)
     (λ c. search (step-last, needs))

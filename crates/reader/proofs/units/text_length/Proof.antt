@@ -4,7 +4,7 @@ use Prim.Native.Nat.{_-_}
 use borrow.Author.Needs.{needs}
 use Rattle.text.proofs.DecodeLaws.{Measuring}
 use Rattle.reader.specs.Units.{unitsIn}
-use Rattle.reader.proofs.TextLaws.{length-start, length-turn, length-unpaired, length-last, length-fits, step-fits, step-less}
+use Rattle.reader.proofs.TextLaws.{length-start, length-ascii, length-turn, length-unpaired, length-last, length-fits, step-fits, step-less}
 use Rattle.reader.proofs.units.text_length.Statement.{statement}
 use Rattle.reader.proofs.units.text_length.Tie as tie
 
@@ -21,6 +21,12 @@ text-length-spec =
     Inv-loop
     μ-loop
     (λ c. search (length-start, needs))
+    (λ c. search needs)
+    (λ c κs. search needs)
+    (λ c. search (length-fits, length-ascii, needs))
+    (λ c. search needs)
+    (λ c. search needs)
+    (λ c. length-ascii _ _ _ _ (c .before .before .before .loop .inv) (search needs) (c .before .unit-at .ensures) (c .if1 .taken))
     (λ c κs. search needs)
     (λ c. search needs)
     (λ c κs. search needs)

@@ -1,6 +1,7 @@
 -- `text::utf16::step_at` meets its contract.
 -- Assumes nothing.
 use borrow.Author.Needs.{needs}
+use Rattle.text.proofs.DecodeLaws.{step-below}
 use Rattle.text.proofs.utf16.step_at.Statement.{statement}
 use Rattle.text.proofs.utf16.step_at.Tie as tie
 
@@ -8,7 +9,10 @@ pub step-at-spec : {M : Type 1} → statement M
 step-at-spec =
     tie.close
     (tie.spec
-    (λ c κs. search needs)
+    (λ c. search needs)
+    (λ c. search needs)
+    (λ c. search needs)
+    (λ c. step-below _ _ _ (c .if1 .taken))
     (λ c. search needs)
     (λ c κs. search needs)
     (λ c. search needs)
