@@ -4,7 +4,8 @@
  * Every call but mcos_create_string_object_metadata answers a uint32_t:
  *
  *   0        accepted. The cells of the call's values and the front of its buffers are
- *            written. *place keeps what it held, and so does each buffer beyond the answer.
+ *            written. *place keeps what it held, and so does each buffer beyond the answer
+ *            (an edit of a store also clears the words that the store gives up).
  *   1 .. 34  refused: the number of the first check that does not hold. *place is written
  *            with where it does not hold. Nothing else is: every other cell and every
  *            buffer keeps what it held.
@@ -28,13 +29,16 @@
  *    6  the name heap has the declared number of names           pieces that it has
  *    7  every property block is whole                            byte of its count
  *   Objects
- *    8  the object id is from 1 to records - 1                   the id
+ *    8  the object id is from 1 to records - 1, in an edit to    the id
+ *       the objects of the store
  *    9  the class id is below the class entries                  the class id
  *   10  the block id is 0 or below the blocks of its region      the block id
  *   11  the name index is at most the number of names            the index
  *   12  the field type is 0, 1 or 2                              the field type
  *   Cells
- *   13  the directory is right                                   its values if odd, above 699,044 or
+ *   13  the directory is right                                   in an edit the objects, if a count
+ *                                                                goes past its buffer; else its
+ *                                                                values if odd, above 699,044 or
  *                                                                not matched by the kinds; else
  *                                                                the first bad pair
  *   14  the cell exists                                          the object id (mcos_decode_string) or
@@ -61,9 +65,8 @@
  *                                                                bad string
  *   31  the product of the dimensions is the number of strings   the number of strings
  *   32  at most 2,097,152 words; at most 349,522 objects         the words; the objects
+ *   33  the store is in written form (see Edits below)           0
  *   34  each output is long enough                               the need of the first that is not
- *
- * Check 33 belongs to edits of a store, which are not among these calls.
  */
 #ifndef MCOS_H
 #define MCOS_H
@@ -105,6 +108,13 @@ typedef struct mcos_object_row {
     uint32_t block_id;
     uint32_t property_count;
 } mcos_object_row;
+
+/* The counts of a store: its objects, the bytes of its blob, and the words of its payloads. */
+typedef struct mcos_counts {
+    uint64_t objects;
+    uint64_t blob_bytes;
+    uint64_t words;
+} mcos_counts;
 
 /* ---- Text ---- */
 
@@ -262,6 +272,54 @@ uint32_t mcos_decode_string_object(const uint8_t *blob, uintptr_t blob_len,
                                    uint8_t *text, uintptr_t text_len,
                                    uint64_t *spans, uintptr_t spans_len,
                                    uint64_t *bytes, uint64_t *strings, uint64_t *place);
+
+/* ---- Edits of a store ----
+ *
+ * A store is its counts and the counted part of four buffers, which may be longer: blob_bytes
+ * bytes of blob, 2 * objects values of directory, objects kinds, and words words. It is in written
+ * form if, for some arrays of strings, it is:
+ *
+ *   objects     the number of arrays, n
+ *   blob        what mcos_build_string_filewrapper_metadata builds for n: 144 + 48 * n bytes
+ *   words       what mcos_encode_string_saveobj_payload writes for each array, end to end
+ *   directory   the pair of each payload: offset and length in words
+ *   kinds       0 for each
+ *
+ * The empty store is the counts 0, 144, 0 with the blob that is built for 0 objects. The calls
+ * that read a store are lent its counted part.
+ *
+ * An accepted edit leaves the written form of the new arrays and their counts; words that are given
+ * up become 0, and all else beyond the counts keeps what it held. A refused edit writes *place
+ * alone. 34 is put for blob, directory, kinds and words: the whole lengths of the buffers against
+ * the whole store after the edit. */
+
+/* Adds an array of strings after the last one: object objects + 1.
+ * Checks: 13, 33, 30, 31, 32 (the payload's words, then objects + 1), 34.
+ * Accepted: the counts in *counts, and the store. */
+uint32_t mcos_append(mcos_counts *counts,
+                     uint8_t *blob, uintptr_t blob_len,
+                     uint64_t *directory, uintptr_t directory_len,
+                     uint8_t *kinds, uintptr_t kinds_len,
+                     uint64_t *words, uintptr_t words_len,
+                     const uint64_t *dims, uintptr_t dims_len,
+                     const uint8_t *text, uintptr_t text_len,
+                     const uint64_t *spans, uintptr_t spans_len,
+                     uint64_t *place);
+
+/* Puts an array of strings in place of that of an object, and moves those after it. Blob and
+ * kinds stay as they are.
+ * Checks: 13, 33, 8, 30, 31, 32 (the payload's words), 34.
+ * Accepted: the counts in *counts, and the store. */
+uint32_t mcos_replace(mcos_counts *counts,
+                      const uint8_t *blob, uintptr_t blob_len,
+                      uint64_t *directory, uintptr_t directory_len,
+                      const uint8_t *kinds, uintptr_t kinds_len,
+                      uint64_t *words, uintptr_t words_len,
+                      uint64_t object_id,
+                      const uint64_t *dims, uintptr_t dims_len,
+                      const uint8_t *text, uintptr_t text_len,
+                      const uint64_t *spans, uintptr_t spans_len,
+                      uint64_t *place);
 
 #ifdef __cplusplus
 }

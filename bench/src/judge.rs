@@ -28,7 +28,7 @@ pub struct Case<'a> {
 }
 
 /// How the two sides agree.
-enum Agreement {
+pub(crate) enum Agreement {
     Accepted,
     Refused(MatError),
     Explained(Rule),
@@ -44,6 +44,8 @@ pub enum Fault {
     /// The last lent element is written to: a part that must be kept, except
     /// where the buffer is exactly full.
     Kept,
+    /// A word that an edit gives up is not 0.
+    GivenUp,
     /// An accepted call is refused.
     Refuses,
     /// A refused call is accepted.
@@ -58,10 +60,11 @@ pub enum Fault {
 
 impl Fault {
     /// All of them.
-    pub const ALL: [Self; 8] = [
+    pub const ALL: [Self; 9] = [
         Self::Value,
         Self::Written,
         Self::Kept,
+        Self::GivenUp,
         Self::Refuses,
         Self::Accepts,
         Self::Number,
@@ -138,6 +141,11 @@ impl Judge {
         }
     }
 
+    /// The fault that is put into every answer.
+    pub(crate) fn fault(&self) -> Option<Fault> {
+        self.fault
+    }
+
     /// Holds the library's answers to the Rust's, and counts.
     pub fn hold(
         &mut self,
@@ -147,9 +155,19 @@ impl Judge {
     ) {
         self.faulted = false;
         let verdict = self.compare(case, &rust, &mut call);
+        self.settle(case, self.faulted, verdict);
+    }
+
+    /// Counts a case: how the two sides agree, or what is different.
+    pub(crate) fn settle(
+        &mut self,
+        case: &Case<'_>,
+        faulted: bool,
+        verdict: Result<Agreement, String>,
+    ) {
         let count = self.tally.counts.entry(case.kind).or_default();
         count.cases += 1;
-        count.faults += u64::from(self.faulted);
+        count.faults += u64::from(faulted);
         let &Case {
             kind, size, show, ..
         } = case;

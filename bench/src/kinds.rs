@@ -14,7 +14,7 @@ use crate::rules::Limit;
 use crate::tally::Kind;
 
 /// The Rust's answer. A panic is a stop that no rule explains.
-fn asked<T>(call: impl FnOnce() -> Answer<T>) -> Answer<T> {
+pub(crate) fn asked<T>(call: impl FnOnce() -> Answer<T>) -> Answer<T> {
     catch_unwind(AssertUnwindSafe(call)).unwrap_or(Err(Refusal::Stopped("the Rust panicked")))
 }
 
@@ -34,13 +34,13 @@ fn text_of(answer: &Answer<String>) -> Rust<'_> {
 }
 
 /// Strings that the Rust gives, as one text with spans.
-struct Strings {
+pub(crate) struct Strings {
     text: String,
     spans: Vec<u64>,
 }
 
 impl Strings {
-    fn new(strings: Vec<String>) -> Self {
+    pub(crate) fn new(strings: Vec<String>) -> Self {
         let (mut text, mut spans) = (String::new(), Vec::with_capacity(2 * strings.len()));
         for string in strings {
             spans.extend([text.len() as u64, string.len() as u64]);
@@ -49,7 +49,7 @@ impl Strings {
         Self { text, spans }
     }
 
-    fn accepted(&self) -> Rust<'_> {
+    pub(crate) fn accepted(&self) -> Rust<'_> {
         let (text, words) = (self.text.as_bytes(), &self.spans[..]);
         let written = Written {
             text,
@@ -187,7 +187,7 @@ pub fn write(judge: &mut Judge, array: &Array) {
 }
 
 /// The strings that the Rust's writer takes, or check 30 by its own rule.
-fn cut_text(text: &[u8], spans: &[u64]) -> Result<Vec<String>, MatError> {
+pub(crate) fn cut_text(text: &[u8], spans: &[u64]) -> Result<Vec<String>, MatError> {
     let (pairs, []) = spans.as_chunks::<2>() else {
         return Err(MatError::InvalidText(spans.len() as u64));
     };
@@ -472,7 +472,7 @@ fn road(
 }
 
 /// The cells that the Rust takes, or check 13 by its own rule.
-fn cut_cells(store: &Store) -> Result<Vec<Cell>, MatError> {
+pub(crate) fn cut_cells(store: &Store) -> Result<Vec<Cell>, MatError> {
     let Store {
         directory,
         kinds,
@@ -501,11 +501,11 @@ fn cut_cells(store: &Store) -> Result<Vec<Cell>, MatError> {
     cells.map(numbered).collect()
 }
 
-fn store_size(store: &Store) -> usize {
+pub(crate) fn store_size(store: &Store) -> usize {
     store.blob.len() + store.directory.len() + store.kinds.len() + store.words.len()
 }
 
-fn show_store(store: &Store) -> String {
+pub(crate) fn show_store(store: &Store) -> String {
     let Store {
         blob,
         directory,
@@ -525,11 +525,11 @@ fn show_store(store: &Store) -> String {
 const SHOWN_BYTES: usize = 288;
 const SHOWN_WORDS: usize = 24;
 
-fn hex(bytes: &[u8]) -> String {
+pub(crate) fn hex(bytes: &[u8]) -> String {
     shown(bytes, SHOWN_BYTES, "", |byte| format!("{byte:02x}"))
 }
 
-fn hex_words<T: LowerHex>(words: &[T]) -> String {
+pub(crate) fn hex_words<T: LowerHex>(words: &[T]) -> String {
     shown(words, SHOWN_WORDS, ",", |word| format!("{word:x}"))
 }
 

@@ -5,6 +5,12 @@ use mcos::Property;
 /// Elements looked at past the end of what was lent.
 const GUARD: usize = 8;
 
+/// The bits of a pattern. They differ from place to place, so that a shift
+/// shows.
+pub(crate) fn mixed(place: usize) -> u64 {
+    (place as u64 + 1).wrapping_mul(0xD6E8_FEB8_6659_FD93)
+}
+
 /// A buffer that holds a pattern between calls.
 struct Buffer<T> {
     now: Vec<T>,
@@ -24,9 +30,7 @@ impl<T: Copy + PartialEq> Buffer<T> {
 
     fn lend(&mut self, len: usize) -> &mut [T] {
         while self.now.len() < len + GUARD {
-            // It differs from place to place, so that a shift shows.
-            let mixed = (self.now.len() as u64 + 1).wrapping_mul(0xD6E8_FEB8_6659_FD93);
-            let element = (self.element)(mixed);
+            let element = (self.element)(mixed(self.now.len()));
             self.now.push(element);
             self.pattern.push(element);
         }

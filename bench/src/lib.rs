@@ -1,6 +1,8 @@
 //! Compares the library with the original Rust: inputs, calls and rules.
 //! `compare` runs it; `bench` times both sides on the same inputs.
 
+pub mod edited;
+pub mod edits;
 pub mod generate;
 pub mod judge;
 pub mod kinds;

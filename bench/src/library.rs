@@ -1,8 +1,9 @@
 //! The library's calls in one form: the safe one of the bindings, and beside it
 //! the C interface, whose cells show what was kept.
 
-use mcos::{Cells as Store, FileWrapper, MatError, ffi};
+use mcos::{Buffers, Cells as Store, Counts, FileWrapper, MatError, ffi};
 
+use crate::edited::Edit;
 use crate::lent::Room;
 
 /// What a cell holds before a call.
@@ -115,6 +116,17 @@ pub struct Array {
     pub dims: Vec<u64>,
     pub text: Vec<u8>,
     pub spans: Vec<u64>,
+}
+
+impl Array {
+    /// It, as the library takes it.
+    fn lent(&self) -> mcos::Array<'_> {
+        mcos::Array {
+            dims: &self.dims,
+            text: &self.text,
+            spans: &self.spans,
+        }
+    }
 }
 
 pub fn measure_payload(Array { dims, text, spans }: &Array) -> Reply {
@@ -366,4 +378,67 @@ pub fn decode_string_object(blob: &[u8], store: Store<'_>, id: u32, room: Room<'
             )
         }),
     }
+}
+
+/// An edit of a store.
+pub fn edit(edit: &Edit, counts: &mut Counts, buffers: &mut Buffers<'_>) -> Result<(), MatError> {
+    match edit {
+        Edit::Append(array) => mcos::append(counts, buffers, array.lent()),
+        Edit::Replace(id, array) => mcos::replace(counts, buffers, *id, array.lent()),
+    }
+}
+
+/// The same in C: its number and the cell of the place.
+pub fn edit_in_c(edit: &Edit, counts: &mut Counts, buffers: Buffers<'_>) -> (u32, u64) {
+    let Buffers {
+        blob,
+        directory,
+        kinds,
+        words,
+    } = buffers;
+    let mut place = KEPT;
+    let number = match edit {
+        Edit::Append(Array { dims, text, spans }) => unsafe {
+            ffi::mcos_append(
+                counts,
+                blob.as_mut_ptr(),
+                blob.len(),
+                directory.as_mut_ptr(),
+                directory.len(),
+                kinds.as_mut_ptr(),
+                kinds.len(),
+                words.as_mut_ptr(),
+                words.len(),
+                dims.as_ptr(),
+                dims.len(),
+                text.as_ptr(),
+                text.len(),
+                spans.as_ptr(),
+                spans.len(),
+                &mut place,
+            )
+        },
+        Edit::Replace(id, Array { dims, text, spans }) => unsafe {
+            ffi::mcos_replace(
+                counts,
+                blob.as_ptr(),
+                blob.len(),
+                directory.as_mut_ptr(),
+                directory.len(),
+                kinds.as_ptr(),
+                kinds.len(),
+                words.as_mut_ptr(),
+                words.len(),
+                *id,
+                dims.as_ptr(),
+                dims.len(),
+                text.as_ptr(),
+                text.len(),
+                spans.as_ptr(),
+                spans.len(),
+                &mut place,
+            )
+        },
+    };
+    (number, place)
 }

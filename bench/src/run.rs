@@ -1,5 +1,7 @@
 //! What a run compares: short inputs exhaustively, then random ones.
 
+mod edits;
+
 use crate::generate::{arrays, blobs, every, lists, payloads, stores, text};
 use crate::judge::{Fault, Judge};
 use crate::kinds;
@@ -20,6 +22,8 @@ pub fn exhaustive(judge: &mut Judge, share: Share) {
     short_payloads(judge, share);
     short_lists_of_a_store(judge, share);
     short_arrays(judge, share);
+    edits::short_lists(judge, share);
+    edits::spoilt_stores(judge, share);
     for n in shared(0..=300, share) {
         kinds::build(judge, n);
         kinds::object_metadata(judge, n as u32);
@@ -248,6 +252,7 @@ pub fn limits(judge: &mut Judge) {
         let last = [lists::MAGIC, 0, values as u32 / 2, 1];
         kinds::roads(judge, &store, &[&last], [1].into_iter());
     }
+    edits::limits(judge);
 }
 
 /// A round of random inputs of every kind.
@@ -307,6 +312,7 @@ pub fn round(judge: &mut Judge, rng: &mut Rng) {
     if rng.once_in(64) {
         kinds::build(judge, rng.below(2000) as u64);
     }
+    edits::round(judge, rng);
 }
 
 /// So many rounds, with a fault put into every answer where it has a place.

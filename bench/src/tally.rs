@@ -24,6 +24,18 @@ pub enum Kind {
     Write,
     Build,
     ObjectMetadata,
+    Append,
+    Replace,
+    ReadBack,
+    TamperedAppend,
+    TamperedReplace,
+}
+
+impl Kind {
+    /// Whether it is an edit, which is held to the edited list.
+    fn is_edit(self) -> bool {
+        self >= Self::Append
+    }
 }
 
 impl fmt::Display for Kind {
@@ -45,6 +57,11 @@ impl fmt::Display for Kind {
             Self::Write => "encode_string_saveobj_payload",
             Self::Build => "build_string_filewrapper_metadata",
             Self::ObjectMetadata => "create_string_object_metadata",
+            Self::Append => "edits: append",
+            Self::Replace => "edits: replace",
+            Self::ReadBack => "edits: reading back",
+            Self::TamperedAppend => "tampered: append",
+            Self::TamperedReplace => "tampered: replace",
         })
     }
 }
@@ -155,7 +172,7 @@ impl fmt::Display for Tally {
         )?;
         writeln!(f, "|---|---:|---:|---:|---:|---:|")?;
         let mut total = [0; 5];
-        let mut refused = [0; 35];
+        let (mut refused, mut edits) = ([0; 35], [0; 35]);
         for (kind, count) in &self.counts {
             let explained = count.explained.values().map(|seen| seen.cases).sum();
             let row = [
@@ -167,15 +184,16 @@ impl fmt::Display for Tally {
             ];
             write_row(f, &kind.to_string(), row)?;
             add(&mut total, row);
-            add(&mut refused, count.refused);
+            let by_check = if kind.is_edit() {
+                &mut edits
+            } else {
+                &mut refused
+            };
+            add(by_check, count.refused);
         }
         write_row(f, "total", total)?;
-        let seen = |(number, cases): (usize, &u64)| {
-            let shown = format!("{number}: {cases}");
-            (*cases > 0).then_some(shown)
-        };
-        let seen: Vec<String> = refused.iter().enumerate().filter_map(seen).collect();
-        writeln!(f, "\nAgreed refused, by check: {}", seen.join(", "))?;
+        writeln!(f, "\nAgreed refused, by check: {}", by_check(&refused))?;
+        writeln!(f, "\nAgreed refused edits, by check: {}", by_check(&edits))?;
         let differences = |(kind, count): (&Kind, &Count)| {
             let kind = *kind;
             let rules = count.explained.clone().into_iter();
@@ -203,6 +221,16 @@ fn add<const N: usize>(sum: &mut [u64; N], more: [u64; N]) {
     for (sum, more) in sum.iter_mut().zip(more) {
         *sum += more;
     }
+}
+
+/// The checks that were seen, with their cases.
+fn by_check(refused: &[u64]) -> String {
+    let seen = |(number, cases): (usize, &u64)| {
+        let shown = format!("{number}: {cases}");
+        (*cases > 0).then_some(shown)
+    };
+    let seen: Vec<String> = refused.iter().enumerate().filter_map(seen).collect();
+    seen.join(", ")
 }
 
 fn write_row(f: &mut fmt::Formatter<'_>, name: &str, row: [u64; 5]) -> fmt::Result {

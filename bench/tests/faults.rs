@@ -4,11 +4,14 @@
 use bench::judge::{Fault, Judge};
 use bench::rng::Rng;
 use bench::run;
+use bench::tally::Kind;
 
 #[test]
 fn every_fault_is_reported() {
     for fault in Fault::ALL {
         let tally = run::faulty(fault, 20);
+        let edits = [Kind::Append, Kind::Replace].map(|kind| tally.counts[&kind].faults);
+        assert!(edits.iter().sum::<u64>() > 0, "{fault:?} in no edit");
         let mut faults = 0;
         for (kind, count) in tally.counts {
             assert_eq!(
@@ -38,5 +41,17 @@ fn no_fault_is_no_report() {
     };
     for number in [6, 13, 16, 21, 28, 30] {
         assert!(explained(number), "{number} is not seen");
+    }
+    for (kind, numbers) in [
+        (Kind::Append, &[30, 31, 34][..]),
+        (Kind::Replace, &[8, 30, 31, 34]),
+        (Kind::TamperedAppend, &[13, 33]),
+        (Kind::TamperedReplace, &[13, 33, 8]),
+    ] {
+        let count = &judge.tally.counts[&kind];
+        assert!(count.accepted > 0, "{kind}: none is accepted");
+        for &number in numbers {
+            assert!(count.refused[number] > 0, "{kind}: {number} is not seen");
+        }
     }
 }

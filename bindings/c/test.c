@@ -208,6 +208,101 @@ static void string_calls(void)
     CHECK(a == 1 && b == 1 && text[0] == 'A' && spans[0] == 0 && spans[1] == 1 && spans[2] == KEPT);
 }
 
+static mcos_counts counts;
+static uint8_t store_blob[288], store_kinds[3];
+static uint64_t store_directory[6], store_words[12];
+
+static const uint64_t one[] = {1}, span[] = {0, 1}, span_of_5[] = {0, 5};
+static const uint8_t letters[] = {'A', 'B', 'C', 'D', 'E'};
+
+/* Appends one string: the first bytes of the letters, as the values say. */
+static uint32_t append(const uint64_t *values, uintptr_t n, uintptr_t words_len)
+{
+    return mcos_append(&counts, store_blob, sizeof store_blob, store_directory, 6, store_kinds, 3, store_words, words_len,
+                       one, 1, letters, 5, values, n, &place);
+}
+
+static uint32_t replace(uint64_t id, const uint64_t *values, uintptr_t n, uintptr_t words_len)
+{
+    return mcos_replace(&counts, store_blob, sizeof store_blob, store_directory, 6, store_kinds, 3, store_words, words_len,
+                        id, one, 1, letters, 5, values, n, &place);
+}
+
+static int is_counts(uint64_t objects, uint64_t words)
+{
+    return counts.objects == objects && counts.blob_bytes == 144 + 48 * objects && counts.words == words;
+}
+
+/* An edit is refused, and counts and buffers are kept. */
+#define REFUSED(edit, number, where)                                                        \
+    do {                                                                                    \
+        mcos_counts old_counts = counts;                                                    \
+        uint8_t old_blob[sizeof store_blob], old_kinds[sizeof store_kinds];                 \
+        uint64_t old_directory[6], old_words[12];                                           \
+        memcpy(old_blob, store_blob, sizeof store_blob);                                    \
+        memcpy(old_kinds, store_kinds, sizeof store_kinds);                                 \
+        memcpy(old_directory, store_directory, sizeof store_directory);                     \
+        memcpy(old_words, store_words, sizeof store_words);                                 \
+        fresh();                                                                            \
+        CHECK(refused(edit, number, where));                                                \
+        CHECK(memcmp(&old_counts, &counts, sizeof counts) == 0);                            \
+        CHECK(memcmp(old_blob, store_blob, sizeof store_blob) == 0);                        \
+        CHECK(memcmp(old_kinds, store_kinds, sizeof store_kinds) == 0);                     \
+        CHECK(memcmp(old_directory, store_directory, sizeof store_directory) == 0);         \
+        CHECK(memcmp(old_words, store_words, sizeof store_words) == 0);                     \
+    } while (0)
+
+static void edit_calls(void)
+{
+    KEEP(store_blob), KEEP(store_directory), KEEP(store_kinds), KEEP(store_words), fresh();
+    CHECK(accepted(mcos_build_string_filewrapper_metadata(0, store_blob, sizeof store_blob, &a, &place)) && a == 144);
+    counts = (mcos_counts){0, 144, 0};
+
+    /* "A", then "A" again. */
+    REFUSED(replace(1, span, 2, 12), 8, 1);
+    REFUSED(append(span, 1, 12), 30, 1);
+    REFUSED(append(span, 0, 12), 31, 0);
+    REFUSED(append(span, 2, 4), 34, 5);
+    fresh();
+    CHECK(accepted(append(span, 2, 12)) && is_counts(1, 5));
+    fresh();
+    CHECK(accepted(append(span, 2, 12)) && is_counts(2, 10));
+    const uint64_t two[] = {1, 1, 1, 1, 'A', 1, 1, 1, 1, 'A'}, pairs[] = {0, 5, 5, 5};
+    CHECK(memcmp(store_words, two, sizeof two) == 0 && kept(store_words + 10, 16));
+    CHECK(memcmp(store_directory, pairs, sizeof pairs) == 0 && kept(store_directory + 4, 16));
+    CHECK(store_kinds[0] == 0 && store_kinds[1] == 0 && kept(store_kinds + 2, 1));
+    CHECK(memcmp(store_blob, blob, 240) == 0 && kept(store_blob + 240, 48));
+
+    /* A longer string in place of the first, and a shorter one again. */
+    const uint64_t longer[] = {1, 1, 1, 5, 0x0044004300420041, 'E', 1, 1, 1, 1, 'A'}, moved[] = {0, 6, 6, 5};
+    REFUSED(replace(0, span_of_5, 2, 12), 8, 0);
+    REFUSED(replace(1, span_of_5, 2, 10), 34, 11);
+    fresh();
+    CHECK(accepted(replace(1, span_of_5, 2, 11)) && is_counts(2, 11));
+    CHECK(memcmp(store_words, longer, sizeof longer) == 0 && kept(store_words + 11, 8));
+    CHECK(memcmp(store_directory, moved, sizeof moved) == 0 && kept(store_directory + 4, 16));
+    fresh();
+    CHECK(accepted(replace(1, span, 2, 12)) && is_counts(2, 10));
+    CHECK(memcmp(store_words, two, sizeof two) == 0 && store_words[10] == 0 && kept(store_words + 11, 8));
+    CHECK(memcmp(store_directory, pairs, sizeof pairs) == 0);
+
+    uint8_t text[2];
+    uint64_t spans[3];
+    KEEP(text), KEEP(spans), fresh();
+    CHECK(accepted(mcos_decode_string_object(store_blob, counts.blob_bytes, store_directory, 2 * counts.objects, store_kinds,
+                                             counts.objects, store_words, counts.words, 2, text, 2, spans, 3, &a, &b, &place)));
+    CHECK(a == 1 && b == 1 && text[0] == 'A' && spans[0] == 0 && spans[1] == 1 && spans[2] == KEPT);
+
+    /* Another version, and counts that are not those of the store. */
+    store_words[5] = 3;
+    REFUSED(append(span, 2, 12), 33, 0);
+    REFUSED(replace(9, span, 1, 12), 33, 0);
+    counts.words = 9;
+    REFUSED(append(span, 2, 12), 13, 1);
+    counts.words = 13;
+    REFUSED(replace(1, span, 2, 12), 13, 2);
+}
+
 int main(void)
 {
     text_calls();
@@ -215,6 +310,7 @@ int main(void)
     blob_calls();
     listing_calls();
     string_calls();
+    edit_calls();
     printf("%d checks, %d failed\n", checks, failed);
     return failed != 0;
 }

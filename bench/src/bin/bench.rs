@@ -4,12 +4,16 @@
 use std::hint::black_box;
 use std::time::{Duration, Instant};
 
+use bench::edited::EditedList;
 use bench::generate::blobs::Plan;
 use bench::generate::lists::MAGIC;
-use mcos::{FileWrapper, Property};
+use mcos::{Array, Buffers, Counts, FileWrapper, Property};
 
 /// Each side is timed so many times, in turn; the best counts.
 const TURNS: usize = 60;
+
+/// So many times where one takes seconds.
+const LONG_TURNS: usize = 3;
 
 /// A timing repeats its call until it has taken this long.
 const LONG_ENOUGH: Duration = Duration::from_millis(4);
@@ -24,6 +28,7 @@ fn main() {
     word_lists();
     building();
     text();
+    edits();
 }
 
 /// The time of so many calls; what they give is dropped in it.
@@ -52,11 +57,21 @@ fn seconds<T>(repeats: u32, call: &mut impl FnMut() -> T) -> f64 {
 /// The best seconds of each side; they take turns, so that both see the same
 /// load.
 fn best<T, U>(library: &mut impl FnMut() -> T, rust: &mut impl FnMut() -> U) -> (f64, f64) {
-    let (library_repeats, rust_repeats) = (repeats(library), repeats(rust));
+    let repeats = (repeats(library), repeats(rust));
+    best_of(TURNS, repeats, library, rust)
+}
+
+/// The same with so many turns and repeats.
+fn best_of<T, U>(
+    turns: usize,
+    repeats: (u32, u32),
+    library: &mut impl FnMut() -> T,
+    rust: &mut impl FnMut() -> U,
+) -> (f64, f64) {
     let mut best = (f64::INFINITY, f64::INFINITY);
-    for _ in 0..TURNS {
-        best.0 = best.0.min(seconds(library_repeats, library));
-        best.1 = best.1.min(seconds(rust_repeats, rust));
+    for _ in 0..turns {
+        best.0 = best.0.min(seconds(repeats.0, library));
+        best.1 = best.1.min(seconds(repeats.1, rust));
     }
     best
 }
@@ -64,13 +79,17 @@ fn best<T, U>(library: &mut impl FnMut() -> T, rust: &mut impl FnMut() -> U) -> 
 /// A row of the table. `spent` seconds of the Rust's side are its stand-ins'.
 fn row(what: &str, (library, rust): (f64, f64), spent: f64) {
     let rust = rust - spent;
-    let micros = |seconds: f64| format!("{:.2} µs", seconds * 1e6);
     let ratio = library / rust;
-    println!(
-        "| {what} | {} | {} | {ratio:.2} |",
-        micros(library),
-        micros(rust)
-    );
+    let (library, rust) = (shown(library), shown(rust));
+    println!("| {what} | {library} | {rust} | {ratio:.2} |");
+}
+
+fn shown(seconds: f64) -> String {
+    if seconds < 0.1 {
+        format!("{:.2} µs", seconds * 1e6)
+    } else {
+        format!("{seconds:.2} s")
+    }
 }
 
 fn time<T, U>(what: &str, mut library: impl FnMut() -> T, mut rust: impl FnMut() -> U) {
@@ -273,4 +292,113 @@ fn text() {
         let rust = || oracle::from_utf8_lossy(black_box(&bytes));
         time(&format!("repair 40,000 bytes, {name}"), library, rust);
     }
+}
+
+/// The buffers of a store, exactly full with so many rows of 12 characters.
+struct Table {
+    counts: Counts,
+    blob: Vec<u8>,
+    directory: Vec<u64>,
+    kinds: Vec<u8>,
+    words: Vec<u64>,
+}
+
+impl Table {
+    /// The words of a row's payload: 1, 2, 1, 1, 12 and three of code units.
+    const ROW: usize = 8;
+
+    fn new(rows: usize) -> Self {
+        Self {
+            counts: Counts::EMPTY,
+            blob: vec![0; 144 + 48 * rows],
+            directory: vec![0; 2 * rows],
+            kinds: vec![0; rows],
+            words: vec![0; Self::ROW * rows],
+        }
+    }
+
+    fn lend(&mut self) -> (&mut Counts, Buffers<'_>) {
+        let buffers = Buffers {
+            blob: &mut self.blob,
+            directory: &mut self.directory,
+            kinds: &mut self.kinds,
+            words: &mut self.words,
+        };
+        (&mut self.counts, buffers)
+    }
+
+    fn append_all(&mut self, rows: &[String]) {
+        let (counts, mut buffers) = self.lend();
+        *counts = Counts::EMPTY;
+        mcos::build_string_filewrapper_metadata(0, buffers.blob).expect("room");
+        for row in rows {
+            mcos::append(counts, &mut buffers, one(row)).expect("room");
+        }
+    }
+
+    fn replace_all(&mut self, rows: &[String]) {
+        let (counts, mut buffers) = self.lend();
+        for (id, row) in (1..).zip(rows) {
+            mcos::replace(counts, &mut buffers, id, one(row)).expect("room");
+        }
+    }
+
+    fn is_written_form_of(&self, list: &EditedList) -> bool {
+        let written = list.written();
+        self.counts == written.counts
+            && self.blob == written.store.blob
+            && self.directory == written.store.directory
+            && self.kinds == written.store.kinds
+            && self.words == written.store.words
+    }
+}
+
+/// One string of 12 characters, as the library takes it.
+fn one(row: &str) -> Array<'_> {
+    Array {
+        dims: &[1, 1],
+        text: row.as_bytes(),
+        spans: &[0, 12],
+    }
+}
+
+/// The same, as the edited list holds it.
+fn listed(row: &str) -> (Vec<u64>, Vec<String>) {
+    (vec![1, 1], vec![row.to_owned()])
+}
+
+/// A table that is edited row by row. The Rust has no edits: its side writes
+/// the whole store at each one with the Rust's writer, and checks nothing.
+fn edits() {
+    const ROWS: usize = 5_000;
+    let rows = |name: &str| -> Vec<String> {
+        let row = |i: usize| format!("{name} {i:07}");
+        (0..ROWS).map(row).collect()
+    };
+    let (first, second) = (rows("rows"), rows("more"));
+    let (mut table, mut list) = (Table::new(ROWS), EditedList::default());
+    let best_of_few = |library: &mut dyn FnMut(), rust: &mut dyn FnMut()| {
+        best_of(LONG_TURNS, (1, 1), &mut || library(), &mut || rust())
+    };
+    let times = best_of_few(&mut || table.append_all(&first), &mut || {
+        list.0.clear();
+        for row in &first {
+            list.0.push(listed(row));
+            black_box(list.written());
+        }
+    });
+    row(
+        "append a table of 5,000 rows one by one (one string of 12 characters each)",
+        times,
+        0.0,
+    );
+    assert!(table.is_written_form_of(&list));
+    let times = best_of_few(&mut || table.replace_all(&second), &mut || {
+        for (i, row) in second.iter().enumerate() {
+            list.0[i] = listed(row);
+            black_box(list.written());
+        }
+    });
+    row("replace each row of that table once", times, 0.0);
+    assert!(table.is_written_form_of(&list));
 }

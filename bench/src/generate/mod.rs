@@ -2,6 +2,7 @@
 
 pub mod arrays;
 pub mod blobs;
+pub mod edits;
 pub mod lists;
 pub mod payloads;
 pub mod stores;

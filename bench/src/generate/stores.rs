@@ -4,7 +4,7 @@ use super::{blobs, payloads};
 use crate::rng::Rng;
 
 /// A store with its cells.
-#[derive(Debug, Clone, Default)]
+#[derive(Debug, Clone, Default, PartialEq, Eq)]
 pub struct Store {
     pub blob: Vec<u8>,
     pub directory: Vec<u64>,

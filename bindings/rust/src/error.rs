@@ -82,9 +82,10 @@ kinds! {
     11 NameIndexOutOfRange: "there is no such name",
     /// A property has an unknown field type. Place: the field type.
     12 UnknownFieldType: "a property has an unknown field type",
-    /// The directory of the cells is not right. Place: the number of its
-    /// values if that is odd, above 699,044 or not matched by the kinds; else
-    /// the first bad pair.
+    /// The directory of the cells is not right. Place: in an edit the number
+    /// of objects, if a count goes past its buffer; else the number of values
+    /// if that is odd, above 699,044 or not matched by the kinds; else the
+    /// first bad pair.
     13 InvalidDirectory: "the directory of the cells is not right",
     /// There is no such cell. Place: the object id of
     /// [`decode_string`](crate::decode_string), the heap value of
@@ -133,8 +134,8 @@ kinds! {
     /// More than 2,097,152 words or 349,522 objects would be written. Place:
     /// the words or the objects.
     32 LimitExceeded: "there are too many words or objects to write",
-    /// A store is not in written form. Place: 0. No call of this crate puts
-    /// the check; it belongs to edits of a store.
+    /// A store is not in written form (see [`Buffers`](crate::Buffers)). Place:
+    /// 0.
     33 NotCanonical: "the store is not in written form",
     /// A buffer is too short. Place: the length that the first short one needs.
     34 OutputTooShort: "a buffer is too short",

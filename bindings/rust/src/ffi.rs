@@ -10,7 +10,7 @@
 //! are aligned and lead to that many elements; what is written overlaps
 //! nothing else of the call.
 
-use crate::{FileWrapper, ObjectRow, Property};
+use crate::{Counts, FileWrapper, ObjectRow, Property};
 
 // The signatures are the whole of it; the safe functions carry the words.
 #[allow(missing_docs)]
@@ -192,6 +192,45 @@ unsafe extern "C" {
         spans_len: usize,
         bytes: *mut u64,
         strings: *mut u64,
+        place: *mut u64,
+    ) -> u32;
+
+    pub fn mcos_append(
+        counts: *mut Counts,
+        blob: *mut u8,
+        blob_len: usize,
+        directory: *mut u64,
+        directory_len: usize,
+        kinds: *mut u8,
+        kinds_len: usize,
+        words: *mut u64,
+        words_len: usize,
+        dims: *const u64,
+        dims_len: usize,
+        text: *const u8,
+        text_len: usize,
+        spans: *const u64,
+        spans_len: usize,
+        place: *mut u64,
+    ) -> u32;
+
+    pub fn mcos_replace(
+        counts: *mut Counts,
+        blob: *const u8,
+        blob_len: usize,
+        directory: *mut u64,
+        directory_len: usize,
+        kinds: *const u8,
+        kinds_len: usize,
+        words: *mut u64,
+        words_len: usize,
+        object_id: u64,
+        dims: *const u64,
+        dims_len: usize,
+        text: *const u8,
+        text_len: usize,
+        spans: *const u64,
+        spans_len: usize,
         place: *mut u64,
     ) -> u32;
 }

@@ -42,9 +42,12 @@
 //! assert_eq!(mcos::decode_string_object(&blob, cells, 1, &mut text, &mut spans)?, found);
 //! # Ok::<(), mcos::MatError>(())
 //! ```
+//!
+//! [`append`] and [`replace`] build such a store array by array, and change it.
 #![deny(missing_docs)]
 
 mod blob;
+mod edits;
 mod error;
 pub mod ffi;
 mod objects;
@@ -56,6 +59,7 @@ pub use blob::{
     FileWrapper, ObjectRow, Property, class_name, find_property, name, object_class_name,
     properties,
 };
+pub use edits::{Array, Buffers, Counts, append, replace};
 pub use error::MatError;
 pub use objects::list_objects;
 pub use strings::{

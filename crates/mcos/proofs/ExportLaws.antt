@@ -1,7 +1,7 @@
 -- The outcomes of the calls for C, from what the calls that they stand on promise.
 -- Assumes nothing.
 use Prim.Native.Nat.{ℕ}
-use mathlib.Core.Path.{_≡_, refl, sym, _∙_, subst}
+use mathlib.Core.Path.{_≡_, refl, sym, _∙_, ap, subst}
 use mathlib.Core.Bool.{Bool, true, false}
 use mathlib.Core.List.{List}
 use mathlib.Core.Option.{Option}
@@ -16,12 +16,17 @@ use Rattle.text.specs.declared.error.MatError.{MatError}
 use Rattle.text.specs.declared.utf8.LossyReply.{LossyReply}
 use Rattle.text.specs.declared.utf8.LossyReply.the-variants as lossyReply
 use Rattle.text.proofs.ResultLaws.{reply-is}
+use Rattle.writer.specs.Array.{Array}
 use Rattle.reader.specs.Replies.{findReplyOf}
 use Rattle.reader.specs.Saveobj.{joined, spansFrom}
 use Rattle.reader.specs.SaveobjStages.{Counts, countsOf}
 use Rattle.reader.specs.declared.find.FindReply.{FindReply}
 use Rattle.reader.specs.declared.find.FindReply.the-variants as find
-use Rattle.mcos.specs.Exports.{foundOf, Exports, ExportsFound, ExportsList, ExportsLossy, ExportsStrings}
+use Rattle.store.specs.Replies.{editReplyOf, Edits}
+use Rattle.store.specs.Store.{Store}
+use Rattle.store.specs.declared.edits.EditReply.the-variants as edit
+use Rattle.store.specs.declared.edits.Edited.{Edited}
+use Rattle.mcos.specs.Exports.{editCells, foundOf, storeIn, Exports, ExportsEdit, ExportsFound, ExportsList, ExportsLossy, ExportsStrings}
 
 -- the outcomes of a call whose reply x is y, and comes to m as f reads it
 module _ {A B X : Type 0} (h : A → B) (f : X → Result A) {x y : X} {m : Result A} {v : B} {place : ℕ} (g : x ≡ y) where
@@ -93,3 +98,31 @@ module _ {s out out' : List ℕ} {bytes replaced place : ℕ} {x : LossyReply} w
 
   pub lossy-short : {need : ℕ} → x ≡ lossyReply.TooShort need → WritesLossy s out x out' → ExportsLossy s out bytes replaced place 34 out' bytes replaced need
   lossy-short g w = subst (Outcome s out out' bytes replaced place) g (told-lossy s out out' bytes replaced place w)
+
+-- ---- edits
+
+module _ {e : Edited} {counts : List ℕ} {place : ℕ} where
+  pub edit-accepted : e .reply ≡ edit.Done → Exports (λ _. editCells e) (editReplyOf (e .reply)) counts place 0 (editCells e) place
+  edit-accepted g = accepted (λ _. editCells e) editReplyOf g refl refl refl
+
+  pub edit-refused :
+      {f : MatError} {r place' : ℕ} → e .reply ≡ edit.Error f → r ≡ failureOf f .number → place' ≡ failureOf f .place
+      → Exports (λ _. editCells e) (editReplyOf (e .reply)) counts place r counts place'
+  edit-refused g n p = refused (λ _. editCells e) editReplyOf g refl refl n p
+
+-- an edit whose answer is told: its counts go to their cells where it is accepted, and are kept where it is refused
+module _ {counts blob directory kinds words counts' blob' directory' kinds' words' : List ℕ} {e : Edited} {place r place' : ℕ} where
+  pub told-edit :
+      {m : Result (List Array)} → Edits (storeIn counts blob directory kinds words) m e blob' directory' kinds' words'
+      → Exports (λ _. editCells e) (editReplyOf (e .reply)) counts place r counts' place'
+      → ExportsEdit (storeIn counts blob directory kinds words) m place r (storeIn counts' blob' directory' kinds' words') place'
+  told-edit {m = ok xs} said t =
+      let u = rw (said .reply) at t in
+      record { number = u .number; store-after = rw (u .value-after) (said .store); place-after = u .place-after }
+  told-edit {m = error f} said t =
+      let u = rw (said .reply) at t in
+      record {
+        number = u .number;
+        store-after = rw (u .value-after) (ap (λ (s : Store). storeIn counts (s .blob) (s .directory) (s .kinds) (s .words)) (said .store));
+        place-after = u .place-after;
+      }

@@ -4,14 +4,18 @@ use Prim.Native.Nat.{ℕ}
 use mathlib.Core.Path.{_≡_}
 use mathlib.Core.List.{List, [], _∷_}
 use mathlib.Core.Option.{Option, some, none, Option·getD}
-use lib.ListN.{length}
+use lib.ListN.{length, getD}
 use Rattle.text.specs.Result.{Result, ok, error, overwritten}
 use Rattle.text.specs.Utf8.{partsFrom, replacedIn, lossy}
+use Rattle.writer.specs.Array.{Array}
 use Rattle.reader.specs.Queries.{intoOutput}
 use Rattle.reader.specs.Saveobj.{joined, spansFrom}
 use Rattle.reader.specs.SaveobjStages.{Counts, countsOf}
 use Rattle.reader.specs.declared.file_wrapper.FileWrapper.{FileWrapper}
 use Rattle.reader.specs.declared.opaque.OpaqueMetadata.{OpaqueMetadata}
+use Rattle.store.specs.Edits.{storeAfter}
+use Rattle.store.specs.Store.{Store, storeOf}
+use Rattle.store.specs.declared.edits.Edited.{Edited}
 
 -- 0, or the number of the check that does not hold
 abbrev pub numberOf : {A : Type 0} → Result A → ℕ
@@ -73,3 +77,17 @@ pub record ExportsFound (m : Result (Option ℕ)) (found position place r found'
 -- the cells of the first id's position, the number of ids and the class id, together
 abbrev pub opaqueCells : ℕ → ℕ → ℕ → OpaqueMetadata
 opaqueCells first ids class = record { «first_id» = first; ids = ids; «class_id» = class }
+
+-- the cells of a store's counts after an edit: objects, blob bytes, words
+abbrev pub editCells : Edited → List ℕ
+editCells e = e .objects ∷ e .«blob_bytes» ∷ e .words ∷ []
+
+-- a store by the cells of its counts and its buffers
+abbrev pub storeIn : List ℕ → List ℕ → List ℕ → List ℕ → List ℕ → Store
+storeIn counts = storeOf (getD counts 0 0) (getD counts 1 0) (getD counts 2 0)
+
+-- an edit of the store s that comes to m and leaves the store s'
+pub record ExportsEdit (s : Store) (m : Result (List Array)) (place r : ℕ) (s' : Store) (place' : ℕ) : Type 0 where
+  pub number : r ≡ numberOf m
+  pub store-after : s' ≡ storeAfter s m
+  pub place-after : place' ≡ placeAfter m place

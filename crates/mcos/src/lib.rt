@@ -19,6 +19,10 @@ use reader::properties::ROW_WIDTH;
 use reader::saveobj;
 use reader::saveobj::StringsReply;
 use reader::string_objects;
+use store::append;
+use store::edits::EditReply;
+use store::edits::Edited;
+use store::replace;
 use text::error::MatError;
 use text::utf8;
 use text::utf8::LossyReply;
@@ -43,7 +47,9 @@ ghost use Rattle.reader.specs.Queries.{intoOutput, nameText, classText, objectC
 ghost use Rattle.reader.specs.Replies.{nameReplyOf, objectsReplyOf, propertiesReplyOf};
 ghost use Rattle.reader.specs.Saveobj.{decodePayload, intoStrings};
 ghost use Rattle.reader.specs.SaveobjStages.{stringsReplyOf};
-ghost use Rattle.mcos.specs.Exports.{countCells, layoutOf, opaqueCells, Exports, ExportsFound, ExportsList, ExportsLossy, ExportsStrings};
+ghost use Rattle.store.specs.Edits.{appended, replaced};
+ghost use Rattle.store.specs.Replies.{editReplyOf};
+ghost use Rattle.mcos.specs.Exports.{countCells, editCells, layoutOf, opaqueCells, storeIn, Exports, ExportsEdit, ExportsFound, ExportsList, ExportsLossy, ExportsStrings};
 
 // Writes the place of a failure and gives its number.
 fn put_error(e: MatError, place: &mut u64) -> u32
@@ -129,6 +135,19 @@ fn put_strings(reply: StringsReply, bytes: &mut u64, strings: &mut u64, place: &
             0
         }
         StringsReply::Error(e) => put_error(e, place),
+    }
+}
+
+fn put_edit(e: Edited, counts: &mut [u64; 3], place: &mut u64) -> u32
+    ensures { λ r. ⌜ Exports (λ _. editCells e) (editReplyOf (e .reply)) (now (counts .entry)) (now (place .entry)) r (now (counts .exit)) (now (place .exit)) ⌝ }
+{
+    let reply = e.reply;
+    match reply {
+        EditReply::Done => {
+            *counts = [e.objects, e.blob_bytes, e.words];
+            0
+        }
+        EditReply::Error(error) => put_error(error, place),
     }
 }
 
@@ -437,6 +456,73 @@ pub extern "C" fn mcos_decode_string_object(
         string_objects::decode_string_object(blob, directory, kinds, words, object_id, text, spans),
         bytes,
         strings,
+        place,
+    )
+}
+
+// The counts of a store are its objects, its blob's bytes and its words.
+#[no_mangle]
+pub extern "C" fn mcos_append(
+    counts: &mut [u64; 3],
+    blob: &mut [u8],
+    directory: &mut [u64],
+    kinds: &mut [u8],
+    words: &mut [u64],
+    dims: &[u64],
+    text: &[u8],
+    spans: &[u64],
+    place: &mut u64,
+) -> u32
+    ensures { λ r. ⌜ ExportsEdit (storeIn (now (counts .entry)) (now (blob .entry)) (now (directory .entry)) (now (kinds .entry)) (now (words .entry))) (appended (storeIn (now (counts .entry)) (now (blob .entry)) (now (directory .entry)) (now (kinds .entry)) (now (words .entry))) (now (dims .entry)) (now (text .entry)) (now (spans .entry))) (now (place .entry)) r (storeIn (now (counts .exit)) (now (blob .exit)) (now (directory .exit)) (now (kinds .exit)) (now (words .exit))) (now (place .exit)) ⌝ }
+{
+    put_edit(
+        append::append_at(
+            counts[0],
+            counts[1],
+            counts[2],
+            blob,
+            directory,
+            kinds,
+            words,
+            dims,
+            text,
+            spans,
+        ),
+        counts,
+        place,
+    )
+}
+
+#[no_mangle]
+pub extern "C" fn mcos_replace(
+    counts: &mut [u64; 3],
+    blob: &[u8],
+    directory: &mut [u64],
+    kinds: &[u8],
+    words: &mut [u64],
+    object_id: u64,
+    dims: &[u64],
+    text: &[u8],
+    spans: &[u64],
+    place: &mut u64,
+) -> u32
+    ensures { λ r. ⌜ ExportsEdit (storeIn (now (counts .entry)) (now (blob .entry)) (now (directory .entry)) (now (kinds .entry)) (now (words .entry))) (replaced (storeIn (now (counts .entry)) (now (blob .entry)) (now (directory .entry)) (now (kinds .entry)) (now (words .entry))) «object_id» (now (dims .entry)) (now (text .entry)) (now (spans .entry))) (now (place .entry)) r (storeIn (now (counts .exit)) (now (blob .entry)) (now (directory .exit)) (now (kinds .entry)) (now (words .exit))) (now (place .exit)) ⌝ }
+{
+    put_edit(
+        replace::replace_at(
+            counts[0],
+            counts[1],
+            counts[2],
+            blob,
+            directory,
+            kinds,
+            words,
+            object_id,
+            dims,
+            text,
+            spans,
+        ),
+        counts,
         place,
     )
 }

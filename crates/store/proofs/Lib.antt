@@ -9,3 +9,5 @@ pub mod Examples
 pub mod MoveLaws
 pub mod SpliceLaws
 pub mod ShiftLaws
+pub mod Passed
+pub mod CountsLaws

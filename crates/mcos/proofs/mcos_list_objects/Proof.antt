@@ -46,9 +46,9 @@ use Rattle.reader.proofs.objects.list_objects as list
 use Rattle.reader.proofs.objects.list_objects.Symbol as list-def
 use Rattle.reader.proofs.objects.list_objects.Symbol.{name as #list}
 use Rattle.reader.proofs.objects.list_objects.Met as list-thm
+use Rattle.store.proofs.Passed.{all-passed, all-passed-go}
 use Rattle.mcos.specs.Exports.{Exports}
 use Rattle.mcos.proofs.ExportLaws.{told-list}
-use Rattle.mcos.proofs.Passed.{all-passed, all-passed-go}
 use Rattle.mcos.proofs.put_objects as put
 use Rattle.mcos.proofs.put_objects.Symbol as put-def
 use Rattle.mcos.proofs.put_objects.Symbol.{name as #put}

@@ -12,6 +12,11 @@ use denote.Triple.End.{Kepts}
 use denote.Triple.Walked.{Stays, AllGo}
 
 module _ {n : ℕ} where
+  -- all but the first
+  abbrev pub others : List (Slot n) → List (Slot n)
+  others [] = []
+  others (s ∷ ss) = ss
+
   -- what is had of the parameters at exit is, word for word, the callee's `lasts`
   abbrev pub all-passed : (ss : List (Slot n)) (ks : Kepts ss) → Stays ss ks
   all-passed [] ks = tt
