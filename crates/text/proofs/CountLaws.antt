@@ -1,21 +1,26 @@
 -- The loop of `count_units`.
 -- Assumes nothing.
 use mathlib.Core.Path.{_≡_, refl, _∙_, sym, ap}
+use mathlib.Core.Bool.{true}
 use mathlib.Core.List.{List, _∷_, flatMap}
 use mathlib.Core.Option.{Option, some, none, Option·map}
-use Prim.Native.Nat.{ℕ, _+_, _≤_}
+use Prim.Native.Nat.{ℕ, _+_, _-_, _/_, _≤_, _<_, max}
 use native.Mathlib.Omega.{arith}
-use lib.ListN.{length, length-append}
-use Rattle.text.specs.declared.utf8.Step.{Step}
-use Rattle.text.specs.declared.utf8.Step.the-variants.{Scalar, IllFormed, End}
+use borrow.Author.Tests.{lt-ltb, ltb-true, eqb-true}
+use lib.Dec.{ltb, eqb}
+use lib.ListN.{length, getD, length-append}
+use Rattle.text.specs.declared.utf8.Step.the-variants.{Scalar, IllFormed}
 use Rattle.text.specs.declared.utf8.UnitCount.{UnitCount}
 use Rattle.text.specs.declared.utf8.UnitCount.the-variants as count
 use Rattle.text.specs.declared.utf8.Validity.the-variants as validity
 use Rattle.text.specs.Replies.{countPlace, validityPlace, CountsUnits}
+use Rattle.text.specs.Stages.{wholeLength}
 use Rattle.text.specs.Unicode.{utf16, utf16s}
-use Rattle.text.specs.Utf8.{stepAt, partsFrom, scalarsOf, scalars8, firstIllFormed, unitsOf}
-use Rattle.text.proofs.PartLaws.{scalar-on, step-reads, step-end, parts-end, parts-scalar, parts-ill-formed}
+use Rattle.text.specs.Utf8.{sequenceLength, matched, valueAt, wholeAt, nextAt, stepAt, partsFrom, scalarsOf, scalars8, firstIllFormed, unitsOf}
+use Rattle.text.proofs.LeadLaws.{ascii}
+use Rattle.text.proofs.PartLaws.{step-reads, parts-end, parts-scalar, parts-ill-formed}
 use Rattle.text.proofs.ScalarLaws.{lengths}
+use Rattle.text.proofs.TestLaws.{and-is, either}
 use Rattle.text.proofs.Utf8Laws.{took-size}
 
 -- n units are counted before i, and all before i is well-formed
@@ -34,33 +39,62 @@ unfolding flatMap
 one-more n v (some vs) = ap some (omega (arith, length-append (utf16 v) (utf16s vs)))
 one-more n v none = refl
 
+broken-here : (t : List ℕ) (i : ℕ) → i < length t → wholeLength t i ≡ 0 → stepAt t i ≡ IllFormed (nextAt t i)
+unfolding stepAt wholeLength wholeAt
+broken-here t i h z =
+    let n : ℕ = sequenceLength (getD t i 0) in
+    either (wholeAt t i)
+    (λ w. let p = and-is (ltb 0 n) (eqb (matched t i) n) w in
+    absurd (omega (arith, ltb-true 0 n (p .0), eqb-true (matched t i) n (p .1), rw w at z))) (λ w. simp (lt-ltb i (length t) h, w))
+
 module _ (t : List ℕ) where
   pub count-start : Counting t 0 0
   count-start = record { bound = omega arith; most = omega arith; units = from-none (scalars8 t); place = refl }
 
-  module _ {n i : ℕ} {x : Step} (c : Counting t n i) (e : x ≡ stepAt t i) where
-    pub count-turn : {v next k : ℕ} → x ≡ Scalar v next → (k ≡ length (utf16 v)) × (k ≤ 2) → Counting t (n + k) next
+  module _ {n i : ℕ} (c : Counting t n i) where
+    -- a sequence more
+    count-scalar : {v next : ℕ} (k : ℕ) → stepAt t i ≡ Scalar v next → k ≡ 1 + (next - i) / 4 → Counting t (n + k) next
     unfolding scalarsOf firstIllFormed
-    count-turn {v} {next} {k} g w =
-        let a = scalar-on t i e g in
-        let p = parts-scalar t i (sym e ∙ g) in
+    count-scalar {v} {next} k e q =
+        let r = step-reads t i e in
+        let a = r .advance in
+        let p = parts-scalar t i e in
+        let z : k ≡ length (utf16 v) = omega (arith, lengths v .exact, took-size r) in
         record {
           bound = a .inside;
-          most = omega (arith, a, lengths v, took-size (step-reads t i (sym e ∙ g)));
-          units = rw (w .0) (rw p at (c .units) ∙ one-more n v (scalarsOf (partsFrom t next)));
+          most = omega (arith, a, lengths v, took-size r);
+          units = rw z (rw p at (c .units) ∙ one-more n v (scalarsOf (partsFrom t next)));
           place = rw p at (c .place);
         }
 
-    pub count-stop : {next : ℕ} → x ≡ IllFormed next → CountsUnits t (count.IllFormed i)
-    unfolding scalarsOf firstIllFormed
-    count-stop g =
-        let p = parts-ill-formed t i (sym e ∙ g) in
-        record { units = sym (rw p at (c .units)); place = sym (rw p at (c .place)) }
+    pub count-ascii : i < length t → getD t i 0 < 128 → Counting t (n + 1) (i + 1)
+    count-ascii h b = count-scalar 1 (sym (ascii t i h b)) (omega arith)
 
-    pub count-last : x ≡ End → CountsUnits t (count.Units n)
+    module _ {r : ℕ} (h : i < length t) (e : r ≡ wholeLength t i) where
+      whole-is : (r ≡ 0 → ⊥) → (wholeAt t i ≡ true) × (matched t i ≡ r)
+      unfolding wholeLength
+      whole-is z = either (wholeAt t i) (λ w. (w, sym (rw w at e))) (λ w. absurd (z (rw w at e)))
+
+      scalar-here : (r ≡ 0 → ⊥) → stepAt t i ≡ Scalar (valueAt t i (matched t i)) (i + r)
+      unfolding stepAt nextAt
+      scalar-here z =
+          let w = whole-is z in
+          let n : i + max 1 (matched t i) ≡ i + r = omega (arith, w .1) in
+          simp (lt-ltb i (length t) h, w .0) (ap (λ (k : ℕ). Scalar (valueAt t i (matched t i)) k) n)
+
+      pub count-whole : (r ≡ 0 → ⊥) → Counting t (n + (1 + r / 4)) (i + r)
+      count-whole z = count-scalar (1 + r / 4) (scalar-here z) (let q : i + r - i ≡ r = omega arith in rw q)
+
+      pub count-stop : r ≡ 0 → CountsUnits t (count.IllFormed i)
+      unfolding scalarsOf firstIllFormed
+      count-stop z =
+          let p = parts-ill-formed t i (broken-here t i h (sym e ∙ z)) in
+          record { units = sym (rw p at (c .units)); place = sym (rw p at (c .place)) }
+
+    pub count-last : length t ≤ i → CountsUnits t (count.Units n)
     unfolding scalarsOf firstIllFormed flatMap
-    count-last g =
-        let p = parts-end t i (step-end t i (sym e ∙ g)) in
+    count-last h =
+        let p = parts-end t i h in
         let z : n + 0 ≡ n = omega arith in
         record { units = sym (rw p at (c .units) ∙ ap some z); place = sym (rw p at (c .place)) }
 

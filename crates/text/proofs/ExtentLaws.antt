@@ -1,21 +1,23 @@
--- Extents: a law for each return of `extent_at`, and runs of ASCII bytes.
+-- Extents: a law for each return of `extent_at`, `whole_length` and `four_length`.
 -- Assumes nothing.
 use mathlib.Core.Path.{_≡_, refl, _∙_, sym, ap}
-use mathlib.Core.Bool.{Bool, true, false, not}
+use mathlib.Core.Bool.{Bool, true, false, cond, not}
 use mathlib.Core.List.{List}
-use Prim.Native.Nat.{ℕ, zero, suc, _+_, _-_, _≤_, _<_}
+use Prim.Native.Nat.{ℕ, _+_, _-_, _≤_, _<_, max}
 use native.Mathlib.Omega.{arith}
-use borrow.Author.Tests.{lt-ltb, le-ltb, ltb-true, ltb-false, ne-eqb}
-use lib.Dec.{ltb}
+use borrow.Author.Tests.{lt-ltb, le-ltb, ltb-true, ltb-false, ne-eqb, not-true, not-false}
+use lib.Dec.{ltb, eqb}
 use lib.ListN.{length, getD}
 use Rattle.text.specs.declared.utf8.Extent.the-variants as extent
 use Rattle.text.specs.declared.utf8.Range.{Range}
 use Rattle.text.specs.declared.utf8.Step.the-variants.{Scalar, IllFormed}
-use Rattle.text.specs.Utf8.{sequenceLength, secondRange, hasIn, stepAt, extentStep, valueHere, AsciiRun}
+use Rattle.text.specs.Stages.{extentStep, valueHere, wholeLength}
+use Rattle.text.specs.Unicode.{within}
+use Rattle.text.specs.Utf8.{sequenceLength, secondRange, hasIn, matched, wholeAt, nextAt, stepAt}
 use Rattle.text.proofs.LeadLaws.{length-by, low-by, high-by, no-start}
-use Rattle.text.proofs.PartLaws.{step-reads}
-use Rattle.text.proofs.StepLaws.{starts-none, no-second, two, no-third, three, no-fourth, four}
-use Rattle.text.proofs.TestLaws.{either, equal-or}
+use Rattle.text.proofs.PartLaws.{step-reads, step-breaks}
+use Rattle.text.proofs.StepLaws.{has-at, starts-none, no-second, two, no-third, three, no-fourth, four}
+use Rattle.text.proofs.TestLaws.{not-both, and-is, either}
 
 -- ---- the length of a sequence by the range of its first byte
 
@@ -112,54 +114,121 @@ module _ (s : List ℕ) (at : ℕ) (here : at < length s) where
           extent-4 t =
               whole (four s at n here refl (λ e. omega (arith, long)) (λ e. omega (arith, long)) g isRange r isHas y (λ e. omega (arith, long)) r2 isHas2 y2 (λ e. omega (arith, longest)) r3 isHas3 t)
 
--- ---- runs of ASCII bytes
+-- ---- the returns of `whole_length` and `four_length`
 
-pub run-start : (s : List ℕ) (i : ℕ) → i ≤ length s → AsciiRun s i i
-run-start s i h = record { on = omega arith; inside = h; every = λ k l u. absurd (omega arith) }
+-- the bytes of a whole sequence whose first byte is F0 or more
+record Four (s : List ℕ) (at : ℕ) : Type 0 where
+  pub room : at + 3 < length s
+  pub first : getD s at 0 ≤ 244
+  pub second : within (secondRange (getD s at 0) .low) (secondRange (getD s at 0) .high) (getD s (at + 1) 0) ≡ true
+  pub third : within 0x80 0xBF (getD s (at + 2) 0) ≡ true
+  pub fourth : within 0x80 0xBF (getD s (at + 3) 0) ≡ true
 
-module _ {s : List ℕ} {i j : ℕ} (r : AsciiRun s i j) where
-  -- one byte more
-  pub run-more : j < length s → getD s j 0 ≤ 127 → AsciiRun s i (j + 1)
-  run-more h b = record {
-    on = omega (arith, r .on);
-    inside = omega arith;
-    every = λ k l u. equal-or k j (λ m. rw m (omega arith)) (λ m. r .every k l (omega arith));
-  }
+in-range : (s : List ℕ) (i lo hi : ℕ) → hasIn s i lo hi ≡ true → within lo hi (getD s i 0) ≡ true
+unfolding hasIn
+in-range s i lo hi e = and-is (ltb i (length s)) (within lo hi (getD s i 0)) e .1
 
-  -- a block more
-  pub run-on : {t : Bool} → (t ≡ true → AsciiRun s j (j + 8)) → t ≡ true → AsciiRun s i (j + 8)
-  run-on f e =
-      let b = f e in
-      record {
-        on = omega (arith, r .on);
-        inside = b .inside;
-        every = λ m l u. either (ltb m j) (λ e. r .every m l (ltb-true m j e)) (λ e. b .every m (ltb-false m j e) u);
-      }
+-- by the tests of `matched` for a sequence of four bytes
+all-tests : (b c d : Bool) → eqb (cond b (cond c (cond d 4 3) 2) 1) 4 ≡ true → (b ≡ true) × (c ≡ true) × (d ≡ true)
+all-tests true true true e = (refl, refl, refl)
+all-tests true true false e = not-both e refl
+all-tests true false d e = not-both e refl
+all-tests false c d e = not-both e refl
 
--- eight bytes, by the tests of `ascii_block`
-pub run-block : (s : List ℕ) (i : ℕ) → 8 ≤ length s - i → getD s i 0 ≤ 127 → ltb 127 (getD s (i + 1) 0) ≡ false → ltb 127 (getD s (i + 2) 0) ≡ false
-    → ltb 127 (getD s (i + 3) 0) ≡ false → ltb 127 (getD s (i + 4) 0) ≡ false → ltb 127 (getD s (i + 5) 0) ≡ false → ltb 127 (getD s (i + 6) 0) ≡ false
-    → ltb 127 (getD s (i + 7) 0) ≡ false → AsciiRun s i (i + 8)
-run-block s i h a b c d e f g k =
-    let one : (j j' : ℕ) → j < length s → ltb 127 (getD s j 0) ≡ false → j' ≡ j + 1 → AsciiRun s i j → AsciiRun s i j' =
-    λ j j' l t m r. rw m (run-more r l (ltb-false 127 (getD s j 0) t)) in
-    let r1 : AsciiRun s i (i + 1) = run-more (run-start s i (omega arith)) (omega arith) a in
-    let r2 = one (i + 1) (i + 2) (omega arith) b (omega arith) r1 in
-    let r3 = one (i + 2) (i + 3) (omega arith) c (omega arith) r2 in
-    let r4 = one (i + 3) (i + 4) (omega arith) d (omega arith) r3 in
-    let r5 = one (i + 4) (i + 5) (omega arith) e (omega arith) r4 in
-    let r6 = one (i + 5) (i + 6) (omega arith) f (omega arith) r5 in
-    let r7 = one (i + 6) (i + 7) (omega arith) g (omega arith) r6 in
-    one (i + 7) (i + 8) (omega arith) k (omega arith) r7
+module _ (s : List ℕ) (at : ℕ) (here : at < length s) where
+  whole-of : {k next v : ℕ} → 2 ≤ k → next ≡ at + k → stepAt s at ≡ Scalar v next → k ≡ wholeLength s at
+  unfolding wholeLength nextAt
+  whole-of h e t =
+      let r = step-reads s at t in
+      simp (r .whole) (omega (arith, r .advance .next-is))
 
--- what each ASCII byte keeps, a run keeps
-module _ (s : List ℕ) (P : ℕ → Type 0) (step : (k : ℕ) → k < length s → getD s k 0 < 128 → P k → P (k + 1)) where
-  run-count : (d i j : ℕ) → j ≡ i + d → AsciiRun s i j → P i → P j
-  run-count zero i j e r p = let m : j ≡ i = omega arith in rw m p
-  run-count (suc d) i j e r p =
-      let b : getD s i 0 < 128 = r .every i (omega arith) (omega arith) in
-      let t : AsciiRun s (i + 1) j = record { on = omega arith; inside = r .inside; every = λ k l u. r .every k (omega arith) u } in
-      run-count d (i + 1) j (omega arith) t (step i (omega (arith, r .inside)) b p)
+  whole-none : {next : ℕ} → stepAt s at ≡ IllFormed next → 0 ≡ wholeLength s at
+  unfolding wholeLength
+  whole-none t = simp (step-breaks s at t .not-whole)
 
-  pub run-rule : {i j : ℕ} → AsciiRun s i j → P i → P j
-  run-rule {i} {j} r p = run-count (j - i) i j (omega (arith, r .on)) r p
+  has-from : (i lo hi : ℕ) {r : Bool} → i < length s → r ≡ within lo hi (getD s i 0) → r ≡ hasIn s i lo hi
+  unfolding hasIn
+  has-from i lo hi h e = simp (lt-ltb i (length s) h) e
+
+  module _ (l : 240 ≤ getD s at 0) where
+    whole-four : wholeAt s at ≡ true → Four s at
+    unfolding wholeAt matched
+    whole-four e =
+        let lead : ℕ = getD s at 0 in
+        let p = and-is (ltb 0 (sequenceLength lead)) _ e in
+        let f : lead ≤ 244 = either (ltb 244 lead) (λ t. absurd (omega (arith, ltb-true 0 (sequenceLength lead) (p .0), no-length-high lead (ltb-true 244 lead t)))) (λ t. ltb-false 244 lead t) in
+        let n = length-4 lead l f in
+        let q = all-tests _ _ _ (simp n at (p .1)) in
+        record {
+          room = has-at s (at + 3) _ _ (q .2);
+          first = f;
+          second = in-range s (at + 1) _ _ (q .0);
+          third = in-range s (at + 2) _ _ (q .1);
+          fourth = in-range s (at + 3) _ _ (q .2);
+        }
+
+    refuse : (Four s at → ⊥) → 0 ≡ wholeLength s at
+    unfolding wholeLength
+    refuse f = either (wholeAt s at) (λ e. absurd (f (whole-four e))) (λ e. simp e)
+
+    pub four-short : length s - at < 4 → 0 ≡ wholeLength s at
+    four-short h = refuse (λ w. omega (arith, w .room))
+
+    pub four-high : 244 < getD s at 0 → 0 ≡ wholeLength s at
+    four-high h = refuse (λ w. omega (arith, w .first))
+
+    module _ {g : Range} (isRange : g ≡ secondRange (getD s at 0)) {r : Bool} (is : r ≡ within (g .low) (g .high) (getD s (at + 1) 0)) where
+      second-is : within (secondRange (getD s at 0) .low) (secondRange (getD s at 0) .high) (getD s (at + 1) 0) ≡ r
+      second-is = ap (λ (x : Range). within (x .low) (x .high) (getD s (at + 1) 0)) (sym isRange) ∙ sym is
+
+      pub four-no-second : not r ≡ true → 0 ≡ wholeLength s at
+      four-no-second t = refuse (λ w. not-both (w .second) (second-is ∙ not-true r t))
+
+      module _ (y : not r ≡ false) {r₂ : Bool} (is₂ : r₂ ≡ within 0x80 0xBF (getD s (at + 2) 0)) where
+        pub four-no-third : not r₂ ≡ true → 0 ≡ wholeLength s at
+        four-no-third t = refuse (λ w. not-both (w .third) (sym is₂ ∙ not-true r₂ t))
+
+        module _ (y₂ : not r₂ ≡ false) {r₃ : Bool} (is₃ : r₃ ≡ within 0x80 0xBF (getD s (at + 3) 0)) where
+          pub four-no-fourth : not r₃ ≡ true → 0 ≡ wholeLength s at
+          four-no-fourth t = refuse (λ w. not-both (w .fourth) (sym is₃ ∙ not-true r₃ t))
+
+          pub four-whole : 4 ≤ length s - at → getD s at 0 ≤ 244 → not r₃ ≡ false → 4 ≡ wholeLength s at
+          unfolding extentStep
+          four-whole h f t =
+              whole-of (omega arith) refl
+              (extent-4 s at here (omega arith) (le-ltb 244 (getD s at 0) f) g isRange r (has-from (at + 1) (g .low) (g .high) (omega arith) is) y r₂ (has-from (at + 2) 0x80 0xBF (omega arith) is₂) y₂ l r₃
+              (has-from (at + 3) 0x80 0xBF (omega arith) is₃) t)
+
+  pub size-low : 128 ≤ getD s at 0 → getD s at 0 < 194 → 0 ≡ wholeLength s at
+  unfolding extentStep
+  size-low l h = whole-none (extent-low s at here l h)
+
+  module _ (from : 194 ≤ getD s at 0) (to : getD s at 0 < 224) (r : Bool) (isHas : r ≡ hasIn s (at + 1) 0x80 0xBF) where
+    pub size-no-2 : not r ≡ true → 0 ≡ wholeLength s at
+    unfolding extentStep
+    size-no-2 t = whole-none (extent-no-2 s at here from to r isHas t)
+
+    pub size-2 : not r ≡ false → 2 ≡ wholeLength s at
+    unfolding extentStep
+    size-2 t = whole-of (omega arith) refl (extent-2 s at here from to r isHas t)
+
+  module _ (from : 224 ≤ getD s at 0) (to : getD s at 0 ≤ 239) (g : Range) (isRange : g ≡ secondRange (getD s at 0)) (r : Bool) (isHas : r ≡ hasIn s (at + 1) (g .low) (g .high)) where
+    below-245 : ltb 244 (getD s at 0) ≡ false
+    below-245 = le-ltb 244 (getD s at 0) (omega arith)
+
+    pub size-no-second : not r ≡ true → 0 ≡ wholeLength s at
+    unfolding extentStep
+    size-no-second t = whole-none (extent-no-second s at here from below-245 g isRange r isHas t)
+
+    module _ (y : not r ≡ false) (r₂ : Bool) (isHas₂ : r₂ ≡ hasIn s (at + 2) 0x80 0xBF) where
+      pub size-no-third : not r₂ ≡ true → 0 ≡ wholeLength s at
+      unfolding extentStep
+      size-no-third t = whole-none (extent-no-third s at here from below-245 g isRange r isHas y r₂ isHas₂ t)
+
+      pub size-3 : not r₂ ≡ false → 3 ≡ wholeLength s at
+      unfolding extentStep
+      size-3 t = whole-of (omega arith) refl (extent-3 s at here from below-245 g isRange r isHas y r₂ isHas₂ t (omega arith))
+
+pub ruleset sizes = (size-low, size-no-2, size-2, size-no-second, size-no-third, size-3)
+
+pub ruleset sizes-of-four = (four-short, four-high, four-no-second, four-no-third, four-no-fourth, four-whole)

@@ -1,3 +1,4 @@
+pub mod AsciiLaws
 pub mod BufferLaws
 pub mod ByteLaws
 pub mod CountLaws

@@ -3,7 +3,7 @@
 use mathlib.Core.Path.{_≡_, refl, _∙_, sym, ap, ap₂}
 use mathlib.Core.Bool.{Bool, true, false, cond}
 use mathlib.Core.List.{List, [], _∷_, _++_, map, flatMap}
-use mathlib.Core.Option.{some, Option·map}
+use mathlib.Core.Option.{some, none, Option·map}
 use Prim.Native.Nat.{ℕ, _+_, _-_, _*_, _/_, _^_, _≤_, _<_, min}
 use native.Mathlib.Omega.{arith}
 use borrow.Author.Tests.{lt-ltb, le-ltb, lt-leb, le-leb, leb-true, ltb-true, ltb-false}
@@ -15,17 +15,20 @@ use Rattle.text.specs.declared.utf8.Extent.{Extent}
 use Rattle.text.specs.declared.utf8.Extent.the-variants as extent
 use Rattle.text.specs.declared.utf8.LossyLength.{LossyLength}
 use Rattle.text.specs.declared.utf8.LossyLength.the-variants as measure
+use Rattle.text.specs.declared.utf8.UnitCount.{UnitCount}
+use Rattle.text.specs.declared.utf8.UnitCount.the-variants as count
 use Rattle.text.specs.declared.utf8.LossyReply.{LossyReply}
 use Rattle.text.specs.declared.utf8.LossyReply.the-variants as lossyReply
 use Rattle.text.specs.Buffer.{put, Places, Filled, fill, Fills}
-use Rattle.text.specs.Replies.{lossyLength, WritesLossy}
+use Rattle.text.specs.Replies.{CountsUnits, lossyLength, WritesLossy}
 use Rattle.text.specs.Result.{needPlace}
+use Rattle.text.specs.Stages.{extentStep, valueHere}
 use Rattle.text.specs.Unicode.{isScalar, utf8, utf8s, encoded}
-use Rattle.text.specs.Utf8.{Part, sequence, illFormed, stepAt, extentStep, valueHere, AsciiRun, partsFrom, scalarsOf, repaired, replacedIn, lossy, lossySequences}
+use Rattle.text.specs.Utf8.{Part, sequence, illFormed, stepAt, partsFrom, scalarsOf, firstIllFormed, repaired, replacedIn, lossy, lossySequences}
 use Rattle.text.proofs.BufferLaws.{put-front, places-same, fill-fits}
-use Rattle.text.proofs.ExtentLaws.{run-rule}
+use Rattle.text.proofs.CountLaws.{valid-units, valid-place}
 use Rattle.text.proofs.LeadLaws.{ascii}
-use Rattle.text.proofs.PartLaws.{Advances, step-reads, step-breaks, step-end, parts-end, parts-scalar, parts-ill-formed}
+use Rattle.text.proofs.PartLaws.{Advances, step-reads, step-breaks, step-end, parts-end, parts-scalar, parts-ill-formed, parts-rule}
 use Rattle.text.proofs.ScalarLaws.{is-scalar}
 use Rattle.text.proofs.Utf8Laws.{step-took, took-size, spelled}
 
@@ -94,6 +97,9 @@ module _ (s : List ℕ) where
           count = omega (arith, x .count);
         }
 
+    pub measure-ascii : i < length s → getD s i 0 < 128 → Measuring s broken replaced (i + 1)
+    measure-ascii h b = measure-scalar (sym (ascii s i h b))
+
     module _ {x : Extent} (e : stepAt s i ≡ extentStep x (valueHere s i)) where
       pub measure-whole : {next : ℕ} → x ≡ extent.Whole next → Measuring s broken replaced next
       unfolding extentStep
@@ -116,12 +122,12 @@ module _ (s : List ℕ) where
           }
 
     module _ (h : length s ≤ i) where
-      none : partsFrom s i ≡ []
-      none = parts-end s i h
+      no-parts : partsFrom s i ≡ []
+      no-parts = parts-end s i h
 
       bytes-are : (i - broken) + 3 * replaced ≡ length (lossy s)
       unfolding repaired flatMap
-      bytes-are = omega (arith, rw none at (m .size))
+      bytes-are = omega (arith, rw no-parts at (m .size))
 
       pub measure-over : (18446744073709551615 - (i - broken)) / 3 < replaced → measure.TooLong ≡ lossyLength s
       unfolding lossyLength
@@ -130,14 +136,16 @@ module _ (s : List ℕ) where
       pub measure-last : length s < 2 ^ 64 → replaced ≤ (18446744073709551615 - (i - broken)) / 3 → measure.Length ((i - broken) + 3 * replaced) replaced ≡ lossyLength s
       unfolding lossyLength replacedIn
       measure-last f l =
-          let r : replaced ≡ replacedIn (partsFrom s 0) = omega (arith, rw none at (m .count)) in
+          let r : replaced ≡ replacedIn (partsFrom s 0) = omega (arith, rw no-parts at (m .count)) in
           simp (lt-ltb (length (lossy s)) (2 ^ 64) (omega (arith, bytes-are, m .bound))) (ap₂ (λ (b n : ℕ). measure.Length b n) bytes-are r)
 
-  pub measure-run : {broken replaced i j : ℕ} → Measuring s broken replaced i → i < length s → getD s i 0 < 128 → AsciiRun s (i + 1) j → Measuring s broken replaced j
-  measure-run {broken} {replaced} {i} m h b r =
-      let step : (k : ℕ) → k < length s → getD s k 0 < 128 → Measuring s broken replaced k → Measuring s broken replaced (k + 1) =
-      λ k h b n. measure-scalar n (sym (ascii s k h b)) in
-      run-rule s (λ (k : ℕ). Measuring s broken replaced k) step r (step i h b m)
+  -- all before the first ill-formed part is kept
+  pub measure-from : {at : ℕ} → firstIllFormed (partsFrom s 0) ≡ some at → Measuring s 0 0 at
+  unfolding firstIllFormed
+  measure-from {at} e =
+      parts-rule s (λ (i : ℕ) (ps : List Part). firstIllFormed ps ≡ some at → Measuring s 0 0 i → Measuring s 0 0 at)
+      (λ i h g m. let z : _≡_ {A = ℕ} 0 1 = cc in absurd (omega arith)) (λ i v n t rest g m. rest g (measure-scalar m t))
+      (λ i n t rest g m. let z : i ≡ at = cc in rw z at m) 0 e measure-start
 
 -- ---- writing
 
@@ -200,6 +208,25 @@ whole-parts (illFormed i ∷ ps) e = absurd (omega arith)
 
 own-repair : (s : List ℕ) → replacedIn (partsFrom s 0) ≡ 0 → s ≡ lossy s
 own-repair s e = spelled s (whole-parts (partsFrom s 0) e) .bytes
+
+no-replaced : (ps : List Part) → none ≡ firstIllFormed ps → replacedIn ps ≡ 0
+unfolding firstIllFormed replacedIn
+no-replaced [] e = refl
+no-replaced (sequence v ∷ ps) e = no-replaced ps e
+no-replaced (illFormed i ∷ ps) e = let z : _≡_ {A = ℕ} 0 1 = cc in absurd (omega arith)
+
+-- ---- measuring by the count of code units, which finds the first ill-formed part
+
+module _ (s : List ℕ) {x : UnitCount} (c : CountsUnits s x) where
+  pub length-kept : {n : ℕ} → x ≡ count.Units n → length s < 2 ^ 64 → measure.Length (length s) 0 ≡ lossyLength s
+  unfolding lossyLength
+  length-kept e f =
+      let z = no-replaced (partsFrom s 0) (valid-units s c e) in
+      let l = ap length (own-repair s z) in
+      simp (sym l, z, lt-ltb (length s) (2 ^ 64) f)
+
+  pub first-broken : {at : ℕ} → x ≡ count.IllFormed at → firstIllFormed (partsFrom s 0) ≡ some at
+  first-broken e = sym (valid-place s c e)
 
 -- ---- the public call
 

@@ -12,7 +12,8 @@ use Rattle.text.specs.declared.utf8.Extent.{Extent}
 use Rattle.text.specs.declared.utf8.Extent.the-variants as extent
 use Rattle.text.specs.declared.utf8.Step.{Step}
 use Rattle.text.specs.declared.utf8.Step.the-variants.{Scalar, IllFormed, End}
-use Rattle.text.specs.Utf8.{sequenceLength, matched, wholeAt, nextAt, stepAt, extentStep, valueHere, AsciiRun, valueAt, Part, sequence, illFormed, before, partsCount, partsFrom}
+use Rattle.text.specs.Stages.{extentStep, valueHere}
+use Rattle.text.specs.Utf8.{sequenceLength, matched, wholeAt, nextAt, stepAt, valueAt, Part, sequence, illFormed, before, partsCount, partsFrom}
 use Rattle.text.proofs.StepLaws.{has-at}
 
 -- ---- a step goes on, and stays within s
@@ -173,11 +174,11 @@ module _ (s : List ℕ) (i : ℕ) {x : Step} (e : x ≡ stepAt s i) where
 
 pub ruleset less = (scalar-less, ill-formed-less)
 
--- the same by extents and runs
+-- the same by extents and single bytes
 module _ (s : List ℕ) (i : ℕ) where
-  pub run-less : {j : ℕ} → i < length s → AsciiRun s (i + 1) j → left s j < left s i
+  pub byte-less : i < length s → left s (i + 1) < left s i
   unfolding left
-  run-less h r = omega (arith, r .on)
+  byte-less h = omega arith
 
   module _ {x : Extent} (e : stepAt s i ≡ extentStep x (valueHere s i)) where
     whole-on : {next : ℕ} → x ≡ extent.Whole next → Advances s i next
@@ -199,4 +200,4 @@ module _ (s : List ℕ) (i : ℕ) where
     unfolding left
     broken-less g = omega (arith, broken-on g)
 
-pub ruleset extent-less = (run-less, whole-less, broken-less)
+pub ruleset extent-less = (byte-less, whole-less, broken-less)

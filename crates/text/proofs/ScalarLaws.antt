@@ -126,16 +126,17 @@ pub record Lengths (v : ℕ) : Type 0 where
   pub units : length (utf16 v) ≤ length (utf8 v)
   pub bytes : length (utf8 v) ≤ 3 * length (utf16 v)
   pub most : length (utf16 v) ≤ 2
+  pub exact : length (utf16 v) ≡ 1 + length (utf8 v) / 4
 
-lengths-by : (v n k : ℕ) → length (utf8 v) ≡ n → length (utf16 v) ≡ k → 1 ≤ k → k ≤ n → n ≤ 3 * k → k ≤ 2 → Lengths v
-lengths-by v n k a b p q r s = record { least = omega arith; units = omega arith; bytes = omega arith; most = omega arith }
+lengths-by : (v n k : ℕ) → length (utf8 v) ≡ n → length (utf16 v) ≡ k → 1 ≤ k → k ≤ n → n ≤ 3 * k → k ≤ 2 → k ≡ 1 + n / 4 → Lengths v
+lengths-by v n k a b p q r s t = record { least = omega arith; units = omega arith; bytes = omega arith; most = omega arith; exact = rw (a, b) t }
 
 pub lengths : (v : ℕ) → Lengths v
 lengths v =
-    by-size v (λ h. lengths-by v 1 1 (ap length (utf8-1 v h)) (ap length (utf16-1 v (omega arith))) (omega arith) (omega arith) (omega arith) (omega arith))
-    (λ l h. lengths-by v 2 1 (ap length (utf8-2 v l h)) (ap length (utf16-1 v (omega arith))) (omega arith) (omega arith) (omega arith) (omega arith))
-    (λ l h. lengths-by v 3 1 (ap length (utf8-3 v l h)) (ap length (utf16-1 v h)) (omega arith) (omega arith) (omega arith) (omega arith))
-    (λ l. lengths-by v 4 2 (ap length (utf8-4 v l)) (ap length (utf16-2 v l)) (omega arith) (omega arith) (omega arith) (omega arith))
+    by-size v (λ h. lengths-by v 1 1 (ap length (utf8-1 v h)) (ap length (utf16-1 v (omega arith))) (omega arith) (omega arith) (omega arith) (omega arith) refl)
+    (λ l h. lengths-by v 2 1 (ap length (utf8-2 v l h)) (ap length (utf16-1 v (omega arith))) (omega arith) (omega arith) (omega arith) (omega arith) refl)
+    (λ l h. lengths-by v 3 1 (ap length (utf8-3 v l h)) (ap length (utf16-1 v h)) (omega arith) (omega arith) (omega arith) (omega arith) refl)
+    (λ l. lengths-by v 4 2 (ap length (utf8-4 v l)) (ap length (utf16-2 v l)) (omega arith) (omega arith) (omega arith) (omega arith) refl)
 
 -- the code units of a text are at most its bytes
 pub units-le : (vs : List ℕ) → length (utf16s vs) ≤ length (utf8s vs)

@@ -12,8 +12,6 @@ use Rattle.text.specs.Unicode.{within, isScalar, utf8, utf8s, utf16s}
 use Rattle.text.specs.declared.utf8.Range.{Range}
 use Rattle.text.specs.declared.utf8.Step.{Step}
 use Rattle.text.specs.declared.utf8.Step.the-variants.{Scalar, IllFormed, End}
-use Rattle.text.specs.declared.utf8.Extent.{Extent}
-use Rattle.text.specs.declared.utf8.Extent.the-variants as extent
 
 -- A row of Table 3-7: how many bytes, the range of the first, and that of the second. Any later byte is from 80 to BF.
 pub record Row : Type 0 where
@@ -91,27 +89,6 @@ stepAt s i =
     cond (ltb i (length s))
     (cond (wholeAt s i) (Scalar (valueAt s i (matched s i)) (nextAt s i)) (IllFormed (nextAt s i)))
     End
-
--- a step found the scalar value v
-unfoldable pub stepHas : Step → ℕ → Bool
-stepHas (Scalar w n) v = eqb w v
-stepHas (IllFormed n) v = false
-stepHas End v = false
-
--- the step that has an extent and finds v
-unfoldable pub extentStep : Extent → ℕ → Step
-extentStep (extent.Whole n) v = Scalar v n
-extentStep (extent.IllFormed n) v = IllFormed n
-
--- the scalar value of the sequence at i
-unfoldable pub valueHere : List ℕ → ℕ → ℕ
-valueHere s i = valueAt s i (matched s i)
-
--- the bytes from one index to another are there and ASCII
-pub record AsciiRun (s : List ℕ) (from to : ℕ) : Type 0 where
-  pub on : from ≤ to
-  pub inside : to ≤ length s
-  pub every : (k : ℕ) → from ≤ k → k < to → getD s k 0 < 128
 
 -- The Standard's own words for what a step finds; that `stepAt` finds it is proved in proofs/MaximalSubpart.antt.
 -- w begins a well-formed sequence

@@ -1,12 +1,13 @@
 // UTF-8 as the Unicode Standard, chapter 3, has it: one decoding step, well-formedness, and the repaired text of ill-formed bytes.
 ghost use mathlib.Core.Path.{_≡_};
-ghost use mathlib.Core.Bool.{true};
+ghost use mathlib.Core.Option.{some};
 ghost use Prim.Native.Nat.{_+_, _≤_, _<_};
 ghost use lib.ListN.{length, getD};
 ghost use Rattle.text.specs.Buffer.{same, put, Places, Fills};
 ghost use Rattle.text.specs.Replies.{unitsFrom, validityPlace, CountsUnits, lossyLength, WritesLossy};
-ghost use Rattle.text.specs.Unicode.{isScalar, utf8, utf16, encoded};
-ghost use Rattle.text.specs.Utf8.{sequenceLength, secondRange, hasIn, stepAt, stepHas, extentStep, valueHere, AsciiRun, partsFrom, firstIllFormed, lossy, lossySequences};
+ghost use Rattle.text.specs.Stages.{stepHas, extentStep, valueHere, wholeLength};
+ghost use Rattle.text.specs.Unicode.{within, Below, isScalar, utf8, utf16, encoded};
+ghost use Rattle.text.specs.Utf8.{sequenceLength, secondRange, hasIn, stepAt, partsFrom, firstIllFormed, lossy, lossySequences};
 
 // The range of a byte, both ends in it.
 pub struct Range {
@@ -175,53 +176,84 @@ fn extent_at(s: &[u8], at: usize) -> Extent
     Extent::Whole(at + 4)
 }
 
-// Whether eight bytes from i on are there and ASCII: read before they are tested, so that they can be tested at once.
-fn ascii_block(s: &[u8], i: usize) -> bool
-    requires { ⌜ i ≤ length (now s) ⌝ }
-    ensures { λ r. ⌜ (r ≡ true → AsciiRun (now (s .entry)) i (i + 8)) ⌝ }
+// Whether a byte is from low to high.
+fn in_range(byte: u8, low: u8, high: u8) -> bool
+    ensures { λ r. ⌜ r ≡ within low high byte ⌝ }
 {
-    if s.len() - i < 8 {
-        return false;
-    }
-    let a = s[i];
-    let b = s[i + 1];
-    let c = s[i + 2];
-    let d = s[i + 3];
-    let e = s[i + 4];
-    let f = s[i + 5];
-    let g = s[i + 6];
-    let h = s[i + 7];
-    if 0x7F < a
-        || 0x7F < b
-        || 0x7F < c
-        || 0x7F < d
-        || 0x7F < e
-        || 0x7F < f
-        || 0x7F < g
-        || 0x7F < h
-    {
-        return false;
-    }
-    true
+    low <= byte && byte <= high
 }
 
-// The end of the ASCII bytes from at on.
-fn ascii_end(s: &[u8], at: usize) -> usize
-    requires { ⌜ at ≤ length (now s) ⌝ }
-    ensures { λ r. ⌜ AsciiRun (now (s .entry)) at r ⌝ }
+// The length of the sequence that starts at a byte from F0 on, 0 where it is not whole. The length is tested once, and not for each byte.
+fn four_length(s: &[u8], at: usize) -> usize
+    requires { ⌜ (at < length (now s)) × (240 ≤ getD (now s) at 0) ⌝ }
+    ensures { λ r. ⌜ r ≡ wholeLength (now (s .entry)) at ⌝ }
 {
-    let mut i = at;
-    while i < s.len() {
-        if 0x7F < s[i] {
-            return i;
-        }
-        if ascii_block(s, i) {
-            i += 8;
-        } else {
-            i += 1;
-        }
+    if s.len() - at < 4 {
+        return 0;
     }
-    i
+    let lead = s[at];
+    if 0xF4 < lead {
+        return 0;
+    }
+    let range = second_range(lead);
+    if !in_range(s[at + 1], range.low, range.high) {
+        return 0;
+    }
+    if !in_range(s[at + 2], 0x80, 0xBF) {
+        return 0;
+    }
+    if !in_range(s[at + 3], 0x80, 0xBF) {
+        return 0;
+    }
+    4
+}
+
+// The length of the well-formed sequence at a byte that is not ASCII, 0 where there is none.
+fn whole_length(s: &[u8], at: usize) -> usize
+    requires { ⌜ (at < length (now s)) × (128 ≤ getD (now s) at 0) ⌝ }
+    ensures { λ r. ⌜ r ≡ wholeLength (now (s .entry)) at ⌝ }
+{
+    let lead = s[at];
+    if lead < 0xC2 {
+        return 0;
+    }
+    if lead < 0xE0 {
+        if !has(s, at + 1, 0x80, 0xBF) {
+            return 0;
+        }
+        return 2;
+    }
+    if 0xEF < lead {
+        return four_length(s, at);
+    }
+    let range = second_range(lead);
+    if !has(s, at + 1, range.low, range.high) {
+        return 0;
+    }
+    if !has(s, at + 2, 0x80, 0xBF) {
+        return 0;
+    }
+    3
+}
+
+// The larger of two bytes.
+fn larger(a: u8, b: u8) -> u8
+    ensures { λ r. ⌜ (a ≤ r) × (b ≤ r) ⌝ }
+{
+    if a < b { b } else { a }
+}
+
+// The highest byte of a text. A turn has no branch, so that many bytes are looked at together.
+fn highest(text: &[u8]) -> u8
+    ensures { λ r. ⌜ Below (r + 1) (now (text .entry)) ⌝ }
+{
+    let mut high: u8 = 0;
+    let mut i: usize = 0;
+    while i < text.len() {
+        high = larger(high, text[i]);
+        i += 1;
+    }
+    high
 }
 
 // Whether a number is a Unicode scalar value.
@@ -245,16 +277,6 @@ pub fn utf8_len(value: u32) -> usize
         return 3;
     }
     4
-}
-
-// The number of code units of a scalar value.
-pub fn utf16_len(value: u32) -> usize
-    ensures { λ r. ⌜ (r ≡ length (utf16 value)) × (r ≤ 2) ⌝ }
-{
-    if value < 0x10000 {
-        return 1;
-    }
-    2
 }
 
 // At most two code units; what is not used is 0.
@@ -342,25 +364,29 @@ pub enum UnitCount {
     IllFormed(usize),
 }
 
+// A sequence has one code unit, and one of four bytes two: no scalar value is computed. A text of ASCII alone is not decoded.
 pub fn count_units(text: &[u8]) -> UnitCount
     ensures { λ r. ⌜ CountsUnits (now (text .entry)) r ⌝ }
 {
+    if highest(text) < 0x80 {
+        return UnitCount::Units(text.len());
+    }
     let mut n: usize = 0;
     let mut i: usize = 0;
-    loop {
-        match step_at(text, i) {
-            Step::Scalar { value, next } => {
-                n += utf16_len(value);
-                i = next;
-            }
-            Step::IllFormed { next: _ } => {
-                return UnitCount::IllFormed(i);
-            }
-            Step::End => {
-                return UnitCount::Units(n);
-            }
+    while i < text.len() {
+        if text[i] < 0x80 {
+            n += 1;
+            i += 1;
+            continue;
         }
+        let size = whole_length(text, i);
+        if size == 0 {
+            return UnitCount::IllFormed(i);
+        }
+        n += 1 + size / 4;
+        i += size;
     }
+    UnitCount::Units(n)
 }
 
 // Whether a text is well-formed, or the position of the first ill-formed part.
@@ -388,23 +414,37 @@ pub enum LossyLength {
 pub fn lossy_length(s: &[u8]) -> LossyLength
     ensures { λ r. ⌜ r ≡ lossyLength (now (s .entry)) ⌝ }
 {
+    match count_units(s) {
+        UnitCount::Units(_) => LossyLength::Length {
+            bytes: s.len(),
+            replaced: 0,
+        },
+        UnitCount::IllFormed(at) => repaired_length(s, at),
+    }
+}
+
+// The same for a text whose first ill-formed part stands at a position.
+fn repaired_length(s: &[u8], at: usize) -> LossyLength
+    requires { ⌜ firstIllFormed (partsFrom (now s) 0) ≡ some at ⌝ }
+    ensures { λ r. ⌜ r ≡ lossyLength (now (s .entry)) ⌝ }
+{
     // how many of the bytes before i are in ill-formed parts: the others are kept
     let mut broken: usize = 0;
     let mut replaced: usize = 0;
-    let mut i: usize = 0;
+    let mut i = at;
     while i < s.len() {
         if s[i] < 0x80 {
-            i = ascii_end(s, i + 1);
-        } else {
-            match extent_at(s, i) {
-                Extent::Whole(next) => {
-                    i = next;
-                }
-                Extent::IllFormed(next) => {
-                    broken += next - i;
-                    replaced += 1;
-                    i = next;
-                }
+            i += 1;
+            continue;
+        }
+        match extent_at(s, i) {
+            Extent::Whole(next) => {
+                i = next;
+            }
+            Extent::IllFormed(next) => {
+                broken += next - i;
+                replaced += 1;
+                i = next;
             }
         }
     }

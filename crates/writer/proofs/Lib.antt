@@ -1,5 +1,4 @@
 pub mod ArrayLaws
-pub mod AsciiLaws
 pub mod CompareLaws
 pub mod FileWrapperLaws
 pub mod LayoutLaws

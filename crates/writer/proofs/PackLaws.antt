@@ -20,7 +20,7 @@ use Rattle.text.specs.declared.utf8.Units.{Units}
 use Rattle.text.proofs.BufferLaws.{put-none, put-one}
 use Rattle.text.proofs.LeadLaws.{step-1}
 use Rattle.text.proofs.PartLaws.{step-reads, step-end, parts-scalar, parts-ill-formed, parts-end, left, scalar-less}
-use Rattle.text.proofs.ScalarLaws.{is-scalar, lengths, below-append, utf16-1, utf16s-nil, utf16s-cons}
+use Rattle.text.proofs.ScalarLaws.{is-scalar, scalar-is, lengths, below-append, utf16-1, utf16-2, utf16s-nil, utf16s-cons}
 use Rattle.text.proofs.TestLaws.{cond-both}
 use Rattle.text.proofs.Utf8Laws.{map-is, not-some, step-took}
 use Rattle.writer.specs.Array.{stringUnits}
@@ -111,6 +111,33 @@ module _ (first : ℕ) (d : List ℕ) (c : Carry) (u : ℕ) where
 same-stored : {first : ℕ} {d : List ℕ} {c : Carry} {us : List ℕ} {k w n k' w' n' : ℕ} → k ≡ k' → w ≡ w' → n ≡ n'
     → Pushed first d c us (set d k w) (record { word = w; count = n }) → Pushed first d c us (set d k' w') (record { word = w'; count = n' })
 same-stored a b e p = rw (← a, ← b, ← e) p
+
+-- ---- the returns of `push_pair`
+
+pub rest-room : {first : ℕ} {d d' : List ℕ} {c c' : Carry} {u : ℕ} → first + (c .count + 2) / 4 ≤ length d → Pushed first d c (u ∷ []) d' c' → first + (c' .count + 1) / 4 ≤ length d'
+rest-room h p = omega (arith, pushed-count p, pushed-length p)
+
+pub pair-pushed : {first : ℕ} {d d' d'' : List ℕ} {c c' c'' : Carry} {u v : ℕ} → Pushed first d c (u ∷ []) d' c' → Pushed first d' c' (v ∷ []) d'' c'' → Pushed first d c (u ∷ v ∷ []) d'' c''
+pair-pushed p q = pushed-then p q
+
+module _ (first : ℕ) (d : List ℕ) (c : Carry) (u v : ℕ) (l : c .word < 2 ^ 64) (hu : u < 65536) where
+  abbrev carried : Carry
+  carried = record { word = c .word / 65536 + u * 281474976710656; count = c .count + 1 }
+
+  module _ (even : c .count % 2 ≡ 0) where
+    pub pair-keeps : ((c .count + 2) % 4 ≡ 0 → ⊥)
+        → Pushed first d c (u ∷ v ∷ []) d (record { word = c .word / 4294967296 + u * 4294967296 + v * 281474976710656; count = c .count + 2 })
+    pair-keeps n =
+        let w : carried .word / 65536 + v * 281474976710656 ≡ c .word / 4294967296 + u * 4294967296 + v * 281474976710656 = omega arith in
+        let k : carried .count + 1 ≡ c .count + 2 = omega arith in
+        rw (← w, ← k) (pushed-then (keeps first d c u (λ e. omega arith)) (keeps first d carried v (λ e. omega arith)))
+
+    pub pair-stores : (c .count + 2) % 4 ≡ 0
+        → Pushed first d c (u ∷ v ∷ []) (set d (first + c .count / 4) (c .word / 4294967296 + u * 4294967296 + v * 281474976710656))
+        (record { word = c .word / 4294967296 + u * 4294967296 + v * 281474976710656; count = c .count + 2 })
+    pair-stores e =
+        same-stored (omega arith) (omega arith) (omega arith)
+        (pushed-then (keeps first d c u (λ e. omega arith)) (stores first d carried v (omega arith)))
 
 -- the return of `push_four`
 pub stores-four : (first : ℕ) (d : List ℕ) (c : Carry) (u v w x : ℕ) → c .count % 4 ≡ 0 → c .word < 2 ^ 64 → u < 65536 → v < 65536 → w < 65536
@@ -211,39 +238,22 @@ packs-all first d₀ us b room =
 
 -- ---- the units of a scalar value
 
-one-of : (us : List ℕ) → 1 ≤ length us → length us < 2 → us ≡ getD us 0 0 ∷ []
-one-of [] l h = absurd (omega arith)
-one-of (u ∷ []) l h = refl
-one-of (u ∷ v ∷ us) l h = absurd (omega arith)
+pub high-fits : (v : ℕ) → isScalar v ≡ true → 0xD800 + (v - 0x10000) / 1024 < 65536
+high-fits v e = omega (arith, scalar-is v e .top)
 
-two-of : (us : List ℕ) → 2 ≤ length us → length us ≤ 2 → us ≡ getD us 0 0 ∷ getD us 1 0 ∷ []
-two-of [] l h = absurd (omega arith)
-two-of (u ∷ []) l h = absurd (omega arith)
-two-of (u ∷ v ∷ []) l h = refl
-two-of (u ∷ v ∷ w ∷ us) l h = absurd (omega arith)
+module _ (first v n room : ℕ) (h : first + (n + length (utf16 v)) / 4 ≤ room) where
+  pub one-room : v < 0x10000 → first + (n + 1) / 4 ≤ room
+  one-room l = omega (arith, ap length (utf16-1 v l))
 
-pub one-room : (v first n room : ℕ) → first + (n + length (utf16 v)) / 4 ≤ room → first + (n + 1) / 4 ≤ room
-one-room v first n room h = omega (arith, lengths v)
+  pub two-room : 0x10000 ≤ v → first + (n + 2) / 4 ≤ room
+  two-room l = omega (arith, ap length (utf16-2 v l))
 
-module _ (v : ℕ) {r : Units} (s : isScalar v ≡ true) (e : r ≡ unitsFrom (encoded utf16 v)) where
-  units-is : r ≡ unitsFrom (utf16 v)
-  units-is = simp s at e
+module _ (v : ℕ) {first : ℕ} {d : List ℕ} {c : Carry} {d' : List ℕ} {c' : Carry} where
+  pub one-pushed : v < 0x10000 → Pushed first d c (v ∷ []) d' c' → Pushed first d c (utf16 v) d' c'
+  one-pushed l p = rw (utf16-1 v l) p
 
-  units-count : r .count ≡ length (utf16 v)
-  units-count = ap (λ (x : Units). x .count) units-is
-
-  module _ {first : ℕ} {d : List ℕ} {c : Carry} {d' : List ℕ} {c' : Carry} (p : Pushed first d c (r .first ∷ []) d' c') where
-    pub one-pushed : r .count < 2 → Pushed first d c (utf16 v) d' c'
-    one-pushed h =
-        rw (one-of (utf16 v) (lengths v .least) (omega (arith, units-count))) (subst (λ (x : Units). Pushed first d c (x .first ∷ []) d' c') units-is p)
-
-    pub two-room : 2 ≤ r .count → first + (c .count + length (utf16 v)) / 4 ≤ length d → first + (c' .count + 1) / 4 ≤ length d'
-    two-room h room = omega (arith, units-count, pushed-count p, pushed-length p)
-
-    pub two-pushed : 2 ≤ r .count → {d'' : List ℕ} {c'' : Carry} → Pushed first d' c' (r .second ∷ []) d'' c'' → Pushed first d c (utf16 v) d'' c''
-    two-pushed h {d''} {c''} q =
-        rw (two-of (utf16 v) (omega (arith, units-count)) (lengths v .most))
-        (subst (λ (x : Units). Pushed first d c (x .first ∷ x .second ∷ []) d'' c'') units-is (pushed-then p q))
+  pub two-pushed : 0x10000 ≤ v → Pushed first d c ((0xD800 + (v - 0x10000) / 1024) ∷ (0xDC00 + (v - 0x10000) % 1024) ∷ []) d' c' → Pushed first d c (utf16 v) d' c'
+  two-pushed l p = rw (utf16-2 v l) p
 
 -- ---- ASCII bytes, each of which is its own unit
 

@@ -6,41 +6,9 @@ use text::utf8::count_units;
 ghost use mathlib.Core.Path.{_≡_};
 ghost use Prim.Native.Nat.{_+_, _*_, _≤_, _<_};
 ghost use lib.ListN.{length};
-ghost use Rattle.text.specs.Replies.{CountsUnits};
 ghost use Rattle.text.specs.Result.{check};
-ghost use Rattle.text.specs.Unicode.{Below};
 ghost use Rattle.writer.specs.Array.{checkShape};
 ghost use Rattle.writer.specs.Stages.{MeasuresString, textMeasureOf, measuredStrings};
-
-// The larger of two bytes.
-fn larger(a: u8, b: u8) -> u8
-    ensures { λ r. ⌜ (a ≤ r) × (b ≤ r) ⌝ }
-{
-    if a < b { b } else { a }
-}
-
-// The highest byte of a text.
-fn highest(text: &[u8]) -> u8
-    ensures { λ r. ⌜ Below (r + 1) (now (text .entry)) ⌝ }
-{
-    let mut high: u8 = 0;
-    let mut i: usize = 0;
-    while i < text.len() {
-        high = larger(high, text[i]);
-        i += 1;
-    }
-    high
-}
-
-// The code units of a text. One that is ASCII has as many as bytes, and is not decoded.
-fn string_units(text: &[u8]) -> UnitCount
-    ensures { λ r. ⌜ CountsUnits (now (text .entry)) r ⌝ }
-{
-    if highest(text) < 0x80 {
-        return UnitCount::Units(text.len());
-    }
-    count_units(text)
-}
 
 // What measuring a string came to: the end of its span and its code units, or that check 30 does not hold of it.
 pub(crate) enum StringMeasure {
@@ -65,7 +33,7 @@ fn measure_string(text: &[u8], spans: &[u64], i: usize, end: usize) -> StringMea
         return StringMeasure::Bad;
     }
     let last = offset + len;
-    match string_units(&text[offset..last]) {
+    match count_units(&text[offset..last]) {
         UnitCount::Units(units) => StringMeasure::Units { end: last, units },
         UnitCount::IllFormed(_) => StringMeasure::Bad,
     }

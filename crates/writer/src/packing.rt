@@ -1,6 +1,5 @@
 // Code units packed into words, four to a word.
 use text::convert::to_usize;
-use text::utf8::utf16_units;
 ghost use mathlib.Core.Path.{_≡_};
 ghost use mathlib.Core.Bool.{true};
 ghost use mathlib.Core.List.{[], _∷_};
@@ -36,17 +35,38 @@ fn push_unit(words: &mut [u64], first: usize, carry: Carry, u: u16) -> Carry
     Carry { word, count }
 }
 
+// Pushes two units, with one store at most where they fall into one word.
+fn push_pair(words: &mut [u64], first: usize, carry: Carry, u: u16, v: u16) -> Carry
+    requires { ⌜ first + (carry .count + 2) / 4 ≤ length (now words) ⌝ }
+    ensures { λ r. ⌜ Pushed first (now (words .entry)) carry (u ∷ v ∷ []) (now (words .exit)) r ⌝ }
+{
+    if carry.count % 2 != 0 {
+        let one = push_unit(words, first, carry, u);
+        return push_unit(words, first, one, v);
+    }
+    let low = carry.word / 4294967296 + u as u64 * 4294967296;
+    let word = low + v as u64 * 281474976710656;
+    let count = carry.count + 2;
+    if count % 4 != 0 {
+        return Carry { word, count };
+    }
+    let at = first + carry.count / 4;
+    words[at] = word;
+    Carry { word, count }
+}
+
 // Pushes the units of a scalar value.
 fn push_scalar(words: &mut [u64], first: usize, carry: Carry, value: u32) -> Carry
     requires { ⌜ (isScalar value ≡ true) × (first + (carry .count + length (utf16 value)) / 4 ≤ length (now words)) ⌝ }
     ensures { λ r. ⌜ Pushed first (now (words .entry)) carry (utf16 value) (now (words .exit)) r ⌝ }
 {
-    let units = utf16_units(value);
-    let one = push_unit(words, first, carry, units.first);
-    if units.count < 2 {
-        return one;
+    if value < 0x10000 {
+        return push_unit(words, first, carry, value as u16);
     }
-    push_unit(words, first, one, units.second)
+    let v = value - 0x10000;
+    let high = (0xD800 + v / 1024) as u16;
+    let low = (0xDC00 + v % 1024) as u16;
+    push_pair(words, first, carry, high, low)
 }
 
 // Pushes four bytes that fill a word, each as a unit.

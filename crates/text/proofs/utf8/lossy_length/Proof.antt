@@ -1,42 +1,11 @@
--- `text::utf8::lossy_length` meets its contract: the laws of its loop answer each need.
+-- `text::utf8::lossy_length` meets its contract.
 -- Assumes nothing.
-use Rattle.text.proofs.PartLaws.{left, broken-after, extent-less}
 use borrow.Author.Needs.{needs}
-use Rattle.text.proofs.LossyLaws.{Measuring, measure-start, measure-run, measure-whole, measure-ill-formed, measure-over, measure-last}
+use Rattle.text.proofs.LossyLaws.{length-kept, first-broken}
 use Rattle.text.proofs.utf8.lossy_length.Statement.{statement}
 use Rattle.text.proofs.utf8.lossy_length.Tie as tie
-
-abbrev Inv-loop : tie.InvT-loop
-Inv-loop s broken₀ replaced₀ i₀ broken replaced i = Measuring s broken replaced i
-
-abbrev μ-loop : tie.MeasureT-loop
-μ-loop s broken₀ replaced₀ i₀ broken replaced i = left s i
 
 pub lossy-length-spec : {M : Type 1} → statement M
 lossy-length-spec =
     tie.close
-    (tie.spec
-    Inv-loop
-    μ-loop
-    (λ c. search measure-start)
-    (λ c. search needs)
-    (λ c. search needs)
-    (λ c κs. search needs)
-    (λ c. search (extent-less, needs))
-    (λ c. search (measure-run, needs))
-    (λ c κs. search needs)
-    (λ c. search needs)
-    (λ c. search (extent-less, needs))
-    (λ c. search (measure-whole, needs))
-    (λ c. search needs)
-    (λ c. search (broken-after, needs))
-    (λ c. search needs)
-    (λ c. search needs)
-    (λ c. search (extent-less, needs))
-    (λ c. search (measure-ill-formed, needs))
-    (λ c. search needs)
-    (λ c. search needs)
-    (λ c. search (measure-over, needs))
-    (λ c. search needs)
-    (λ c. search needs)
-    (λ c. search (measure-last, needs)))
+    (tie.spec (λ c κs. search needs) (λ c. search needs) (λ c. search needs) (λ c κs. search (first-broken, needs)) (λ c. search (length-kept, needs)) (λ c. search needs))

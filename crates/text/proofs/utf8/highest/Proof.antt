@@ -1,11 +1,11 @@
--- `writer::checks::highest` meets its contract: the laws of its loop answer each need.
+-- `text::utf8::highest` meets its contract: the laws of its loop answer each need.
 -- Assumes nothing.
 use Prim.Native.Nat.{_-_}
 use lib.ListN.{length}
 use borrow.Author.Needs.{needs}
-use Rattle.writer.proofs.AsciiLaws.{Highest, highest-start, highest-turn, highest-last}
-use Rattle.writer.proofs.checks.highest.Statement.{statement}
-use Rattle.writer.proofs.checks.highest.Tie as tie
+use Rattle.text.proofs.AsciiLaws.{Highest, highest-start, highest-turn, highest-last}
+use Rattle.text.proofs.utf8.highest.Statement.{statement}
+use Rattle.text.proofs.utf8.highest.Tie as tie
 
 abbrev Inv-loop : tie.InvT-loop
 Inv-loop text high₀ i₀ high i = Highest text high i
