@@ -1,6 +1,8 @@
 // The recorded calls: each reads its arguments from the line, is made anew, and its answer is held to the line's.
 use crate::fields;
+use crate::fields::ArrayLengths;
 use crate::fields::Number;
+use crate::fields::StoreLengths;
 use crate::render;
 use reader::classes::object_class_name;
 use reader::decode::decode_string;
@@ -33,12 +35,11 @@ pub enum Verdict {
 }
 
 // Holds the first n bytes of our answer to what the line says from the given field on.
-fn compare(line: &[u8], field: usize, answer: &[u8], n: usize) -> Verdict {
-    let recorded = fields::rest(line, field);
-    if !fields::starts_with(recorded, b"= ") {
+pub fn compare(line: &[u8], field: usize, answer: &[u8], n: usize) -> Verdict {
+    if !fields::starts_with(fields::rest(line, field), b"= ") {
         return Verdict::Unreadable;
     }
-    if answer.len() < n || !fields::starts_with(recorded, fields::part(answer, 0, n)) {
+    if !fields::says(line, field, answer, n) {
         return Verdict::Differs;
     }
     Verdict::Agrees
@@ -94,13 +95,12 @@ pub fn write(line: &[u8]) -> Verdict {
     let dims: &mut [u64] = &mut fields::words_buffer();
     let words: &mut [u64] = &mut fields::words_buffer();
     let answer: &mut [u8] = &mut io::buffer();
-    let Number::Value(bytes) = fields::bytes(fields::field(line, 1), text) else {
-        return Verdict::Unreadable;
-    };
-    let Number::Value(span_words) = fields::words(fields::field(line, 2), spans) else {
-        return Verdict::Unreadable;
-    };
-    let Number::Value(rank) = fields::words(fields::field(line, 3), dims) else {
+    let ArrayLengths::Of {
+        bytes,
+        span_words,
+        rank,
+    } = fields::array(line, 1, text, spans, dims)
+    else {
         return Verdict::Unreadable;
     };
     let Number::Value(length) = fields::decimal(fields::field(line, 4)) else {
@@ -361,28 +361,19 @@ fn decode_one(
     decode_string_object(blob, directory, kinds, words, id, text, spans)
 }
 
-// BLOB DIRECTORY KINDS WORDS METADATA-or-id text-length spans-length
-fn decode(line: &[u8], by_metadata: bool) -> Verdict {
-    let blob: &mut [u8] = &mut io::buffer();
-    let directory: &mut [u64] = &mut fields::words_buffer();
-    let kinds: &mut [u8] = &mut io::buffer();
-    let words: &mut [u64] = &mut fields::words_buffer();
+// Decodes strings of the store that is lent.
+fn decode_lent(
+    line: &[u8],
+    by_metadata: bool,
+    blob: &[u8],
+    directory: &[u64],
+    kinds: &[u8],
+    words: &[u64],
+) -> Verdict {
     let metadata: &mut [u32] = &mut fields::words32_buffer();
     let text: &mut [u8] = &mut io::buffer();
     let spans: &mut [u64] = &mut fields::words_buffer();
     let answer: &mut [u8] = &mut io::buffer();
-    let Number::Value(blob_bytes) = fields::bytes(fields::field(line, 1), blob) else {
-        return Verdict::Unreadable;
-    };
-    let Number::Value(entries) = fields::words(fields::field(line, 2), directory) else {
-        return Verdict::Unreadable;
-    };
-    let Number::Value(kind_bytes) = fields::bytes(fields::field(line, 3), kinds) else {
-        return Verdict::Unreadable;
-    };
-    let Number::Value(word_count) = fields::words(fields::field(line, 4), words) else {
-        return Verdict::Unreadable;
-    };
     let Number::Value(target) = metadata_or_id(fields::field(line, 5), by_metadata, metadata) else {
         return Verdict::Unreadable;
     };
@@ -402,10 +393,10 @@ fn decode(line: &[u8], by_metadata: bool) -> Verdict {
         return Verdict::Unreadable;
     }
     let reply = decode_one(
-        fields::part(blob, 0, blob_bytes),
-        fields::first_words(directory, entries),
-        fields::part(kinds, 0, kind_bytes),
-        fields::first_words(words, word_count),
+        blob,
+        directory,
+        kinds,
+        words,
         fields::first_words32(metadata, target),
         by_metadata,
         target as u32,
@@ -414,6 +405,31 @@ fn decode(line: &[u8], by_metadata: bool) -> Verdict {
     );
     let n = strings_answer(reply, text, spans, answer);
     compare(line, 8, answer, n)
+}
+
+// BLOB DIRECTORY KINDS WORDS METADATA-or-id text-length spans-length
+fn decode(line: &[u8], by_metadata: bool) -> Verdict {
+    let blob: &mut [u8] = &mut io::buffer();
+    let directory: &mut [u64] = &mut fields::words_buffer();
+    let kinds: &mut [u8] = &mut io::buffer();
+    let words: &mut [u64] = &mut fields::words_buffer();
+    let StoreLengths::Of {
+        blob_bytes,
+        entries,
+        kind_bytes,
+        word_count,
+    } = fields::store(line, blob, directory, kinds, words)
+    else {
+        return Verdict::Unreadable;
+    };
+    decode_lent(
+        line,
+        by_metadata,
+        fields::part(blob, 0, blob_bytes),
+        fields::first_words(directory, entries),
+        fields::part(kinds, 0, kind_bytes),
+        fields::first_words(words, word_count),
+    )
 }
 
 // road1: by opaque metadata

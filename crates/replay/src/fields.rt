@@ -1,11 +1,32 @@
 // The fields of a line, parted by single spaces, and the numbers in them.
 ghost use mathlib.Core.Path.{_≡_};
-ghost use Prim.Native.Nat.{_≤_};
+ghost use Prim.Native.Nat.{_<_, _≤_};
 ghost use lib.ListN.{length};
 
 // A number or a count that a field holds, or that it holds none.
 pub enum Number {
     Value(usize),
+    Unreadable,
+}
+
+// How many elements the fields of a store's buffers hold, or that one of them holds none.
+pub enum StoreLengths {
+    Of {
+        blob_bytes: usize,
+        entries: usize,
+        kind_bytes: usize,
+        word_count: usize,
+    },
+    Unreadable,
+}
+
+// The same for the fields of an array.
+pub enum ArrayLengths {
+    Of {
+        bytes: usize,
+        span_words: usize,
+        rank: usize,
+    },
     Unreadable,
 }
 
@@ -121,6 +142,11 @@ pub fn starts_with(text: &[u8], start: &[u8]) -> bool {
     true
 }
 
+// Whether the line, from a field on, starts with the first n bytes of a text.
+pub fn says(line: &[u8], number: usize, text: &[u8], n: usize) -> bool {
+    n <= text.len() && starts_with(rest(line, number), part(text, 0, n))
+}
+
 pub fn same(a: &[u8], b: &[u8]) -> bool {
     a.len() == b.len() && starts_with(a, b)
 }
@@ -134,9 +160,9 @@ fn digit(byte: u8) -> u8 {
     }
 }
 
-// The number that digits spell in base 10 or 16. A sixteenth of all numbers leaves room for one more digit of either.
+// The number that digits spell in base 10 or 16.
 fn value_of(digits: &[u8], base: usize) -> Number
-    requires { ⌜ base ≤ 16 ⌝ }
+    requires { ⌜ 0 < base ⌝ }
 {
     let mut value: usize = 0;
     let mut i = 0;
@@ -145,7 +171,7 @@ fn value_of(digits: &[u8], base: usize) -> Number
         if base <= d {
             return Number::Unreadable;
         }
-        if usize::MAX / 16 < value {
+        if (usize::MAX - d) / base < value {
             return Number::Unreadable;
         }
         value = value * base + d;
@@ -253,4 +279,58 @@ pub fn words(field: &[u8], out: &mut [u64]) -> Number {
         start = end + 1;
     }
     Number::Unreadable
+}
+
+// BLOB DIRECTORY KINDS WORDS, which stand from field 1 on.
+pub fn store(
+    line: &[u8],
+    blob: &mut [u8],
+    directory: &mut [u64],
+    kinds: &mut [u8],
+    cells: &mut [u64],
+) -> StoreLengths {
+    let Number::Value(blob_bytes) = bytes(field(line, 1), blob) else {
+        return StoreLengths::Unreadable;
+    };
+    let Number::Value(entries) = words(field(line, 2), directory) else {
+        return StoreLengths::Unreadable;
+    };
+    let Number::Value(kind_bytes) = bytes(field(line, 3), kinds) else {
+        return StoreLengths::Unreadable;
+    };
+    let Number::Value(word_count) = words(field(line, 4), cells) else {
+        return StoreLengths::Unreadable;
+    };
+    StoreLengths::Of {
+        blob_bytes,
+        entries,
+        kind_bytes,
+        word_count,
+    }
+}
+
+// TEXT SPANS DIMS, from the given field on.
+pub fn array(
+    line: &[u8],
+    first: usize,
+    text: &mut [u8],
+    spans: &mut [u64],
+    dims: &mut [u64],
+) -> ArrayLengths
+    requires { ⌜ first ≤ 9 ⌝ }
+{
+    let Number::Value(length) = bytes(field(line, first), text) else {
+        return ArrayLengths::Unreadable;
+    };
+    let Number::Value(span_words) = words(field(line, first + 1), spans) else {
+        return ArrayLengths::Unreadable;
+    };
+    let Number::Value(rank) = words(field(line, first + 2), dims) else {
+        return ArrayLengths::Unreadable;
+    };
+    ArrayLengths::Of {
+        bytes: length,
+        span_words,
+        rank,
+    }
 }

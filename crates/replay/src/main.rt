@@ -1,5 +1,6 @@
 // Makes the recorded calls of standard input anew, a call a line, and counts those whose answers agree. Every other line is printed.
 mod calls;
+mod edits;
 mod fields;
 mod render;
 
@@ -36,57 +37,31 @@ const ROAD2: usize = 12;
 
 const OBJECTS: usize = 13;
 
-const OTHER: usize = 14;
+const APPENDTO: usize = 14;
 
-const KINDS: usize = 15;
+const REPLACEIN: usize = 15;
+
+const OTHER: usize = 16;
+
+const KINDS: usize = 17;
+
+// The names of the calls in the order of their numbers.
+const NAMES: [u8; 106] =
+    *b"utf16 lossy write build open name class wordlist props find payload road1 road2 objects appendto replacein";
 
 // The longest line. No answer is longer than its line, so the calls have buffers of as many elements.
 const LINE: usize = 4096;
 
+fn has_name(call: usize, name: &[u8]) -> bool {
+    fields::same(name, fields::field(&NAMES, call))
+}
+
 fn call_of(name: &[u8]) -> usize {
-    if fields::same(name, b"utf16") {
-        return UTF16;
+    let mut call = 0;
+    while call < OTHER && !has_name(call, name) {
+        call += 1;
     }
-    if fields::same(name, b"lossy") {
-        return LOSSY;
-    }
-    if fields::same(name, b"write") {
-        return WRITE;
-    }
-    if fields::same(name, b"build") {
-        return BUILD;
-    }
-    if fields::same(name, b"open") {
-        return OPEN;
-    }
-    if fields::same(name, b"name") {
-        return NAME;
-    }
-    if fields::same(name, b"class") {
-        return CLASS;
-    }
-    if fields::same(name, b"wordlist") {
-        return WORDLIST;
-    }
-    if fields::same(name, b"props") {
-        return PROPS;
-    }
-    if fields::same(name, b"find") {
-        return FIND;
-    }
-    if fields::same(name, b"payload") {
-        return PAYLOAD;
-    }
-    if fields::same(name, b"road1") {
-        return ROAD1;
-    }
-    if fields::same(name, b"road2") {
-        return ROAD2;
-    }
-    if fields::same(name, b"objects") {
-        return OBJECTS;
-    }
-    OTHER
+    call
 }
 
 // No input is so long that a count wraps.
@@ -121,6 +96,8 @@ fn replay(line: &[u8], seen: &mut [u64; KINDS], agreed: &mut [u64; KINDS]) {
         ROAD1 => calls::road1(line),
         ROAD2 => calls::road2(line),
         OBJECTS => calls::objects(line),
+        APPENDTO => edits::appendto(line),
+        REPLACEIN => edits::replacein(line),
         _ => Verdict::Unknown,
     };
     count(seen, call);
@@ -209,12 +186,21 @@ fn read_all(line: &mut [u8; LINE], seen: &mut [u64; KINDS], agreed: &mut [u64; K
     0 < turns
 }
 
-fn print_total(name: &[u8], agreed: u64, seen: u64) {
-    io::write_all(STDOUT_FILENO, name);
+fn print_total(call: usize, agreed: u64, seen: u64) {
+    io::write_all(STDOUT_FILENO, fields::field(&NAMES, call));
+    io::write_all(STDOUT_FILENO, b" ");
     io::print_decimal(STDOUT_FILENO, agreed);
     io::write_all(STDOUT_FILENO, b" of ");
     io::print_decimal(STDOUT_FILENO, seen);
     io::write_all(STDOUT_FILENO, b"\n");
+}
+
+fn print_totals(agreed: &[u64; KINDS], seen: &[u64; KINDS]) {
+    let mut call = 0;
+    while call < OTHER {
+        print_total(call, agreed[call], seen[call]);
+        call += 1;
+    }
 }
 
 fn main() {
@@ -224,20 +210,7 @@ fn main() {
     if !read_all(&mut line, &mut seen, &mut agreed) {
         io::write_all(STDOUT_FILENO, b"input too long\n");
     }
-    print_total(b"utf16 ", agreed[UTF16], seen[UTF16]);
-    print_total(b"lossy ", agreed[LOSSY], seen[LOSSY]);
-    print_total(b"write ", agreed[WRITE], seen[WRITE]);
-    print_total(b"build ", agreed[BUILD], seen[BUILD]);
-    print_total(b"open ", agreed[OPEN], seen[OPEN]);
-    print_total(b"name ", agreed[NAME], seen[NAME]);
-    print_total(b"class ", agreed[CLASS], seen[CLASS]);
-    print_total(b"wordlist ", agreed[WORDLIST], seen[WORDLIST]);
-    print_total(b"props ", agreed[PROPS], seen[PROPS]);
-    print_total(b"find ", agreed[FIND], seen[FIND]);
-    print_total(b"payload ", agreed[PAYLOAD], seen[PAYLOAD]);
-    print_total(b"road1 ", agreed[ROAD1], seen[ROAD1]);
-    print_total(b"road2 ", agreed[ROAD2], seen[ROAD2]);
-    print_total(b"objects ", agreed[OBJECTS], seen[OBJECTS]);
+    print_totals(&agreed, &seen);
     io::write_all(STDOUT_FILENO, b"other ");
     io::print_decimal(STDOUT_FILENO, seen[OTHER]);
     io::write_all(STDOUT_FILENO, b"\n");

@@ -225,14 +225,72 @@ pub fn none(out: &mut [u8]) -> usize {
     word(b"= ok none #", out, 0)
 }
 
-pub fn numbers(first: u64, second: u64, third: u64, out: &mut [u8]) -> usize {
-    let at = word(b"= ok ", out, 0);
+// Three numbers with spaces between them.
+fn three(first: u64, second: u64, third: u64, out: &mut [u8], at: usize) -> usize {
     let at = decimal(first, out, at);
     let at = word(b" ", out, at);
     let at = decimal(second, out, at);
     let at = word(b" ", out, at);
-    let at = decimal(third, out, at);
+    decimal(third, out, at)
+}
+
+pub fn numbers(first: u64, second: u64, third: u64, out: &mut [u8]) -> usize {
+    let at = word(b"= ok ", out, 0);
+    let at = three(first, second, third, out, at);
     word(b" #", out, at)
+}
+
+// The whole buffers of a store.
+fn buffers(
+    blob: &[u8],
+    directory: &[u64],
+    kinds: &[u8],
+    cells: &[u64],
+    out: &mut [u8],
+    at: usize,
+) -> usize {
+    let at = bytes(blob, blob.len(), out, at);
+    let at = word(b" ", out, at);
+    let at = words(directory, directory.len(), out, at);
+    let at = word(b" ", out, at);
+    let at = bytes(kinds, kinds.len(), out, at);
+    let at = word(b" ", out, at);
+    words(cells, cells.len(), out, at)
+}
+
+// A store after an edit: its counts, then its buffers.
+pub fn edited(
+    objects: u64,
+    blob_bytes: u64,
+    used: u64,
+    blob: &[u8],
+    directory: &[u64],
+    kinds: &[u8],
+    cells: &[u64],
+    out: &mut [u8],
+) -> usize {
+    let at = word(b"= ok ", out, 0);
+    let at = three(objects, blob_bytes, used, out, at);
+    let at = word(b" ", out, at);
+    let at = buffers(blob, directory, kinds, cells, out, at);
+    word(b" #", out, at)
+}
+
+// A store as a line lends it: its buffers, then its counts, with the space after them.
+pub fn lent(
+    objects: u64,
+    blob_bytes: u64,
+    used: u64,
+    blob: &[u8],
+    directory: &[u64],
+    kinds: &[u8],
+    cells: &[u64],
+    out: &mut [u8],
+) -> usize {
+    let at = buffers(blob, directory, kinds, cells, out, 0);
+    let at = word(b" ", out, at);
+    let at = three(objects, blob_bytes, used, out, at);
+    word(b" ", out, at)
 }
 
 // A refusal. One that wrote to a buffer agrees with no line.
