@@ -2,26 +2,31 @@
 -- Assumes nothing.
 use mathlib.Core.Path.{_≡_, refl, sym, ap, _∙_}
 use mathlib.Core.List.{List, [], _∷_, _++_, append-nil}
-use Prim.Native.Nat.{ℕ, suc, _+_, _-_, _≤_, _<_}
+use Prim.Native.Nat.{ℕ, zero, suc, _+_, _-_, _≤_, _<_}
 use native.Mathlib.Numerals.{add-one}
 use native.Mathlib.Omega.{arith}
 use borrow.Author.Tests.{eq-eqb, ne-eqb, ltb-true, ltb-false, le-leb, lt-leb, leb-true}
 use lib.Dec.{eqb, leb, ltb}
-use lib.ListN.{length, getD, drop, length-drop}
-use lib.Seq.{slice, slice-cons, slice-empty, append-snoc, drop-cons, getD-drop, drop-drop}
+use lib.ListN.{length, getD, take, drop, length-drop, take-append-drop}
+use lib.Seq.{slice, slice-cons, slice-empty, append-snoc, take-take, drop-cons, getD-drop, drop-drop}
 use Rattle.text.proofs.BufferLaws.{slice-more}
 use Rattle.text.proofs.TestLaws.{either}
-use Rattle.reader.specs.Names.{onto, pieces, piecesFrom, heapOf, nameBytes, HasPiece, Starts, FirstPiece, HasName, IsName}
+use Rattle.reader.specs.Names.{onto, pieces, piecesFrom, heapOf, nameBytes, zeros, Counted, Skips, HasPiece, Starts, FirstPiece, HasName, IsName}
+use Rattle.reader.specs.declared.names.Skipped.{Skipped}
 
 length-onto : (x : ℕ) (ps : List (List ℕ)) → 1 ≤ length ps → length (onto x ps) ≡ length ps
 length-onto x [] h = absurd (omega arith)
 length-onto x (p ∷ ps) h = refl
 
+length-pieces : (xs : List ℕ) → length (pieces xs) ≡ zeros xs + 1
+unfolding pieces zeros
+length-pieces [] = refl
+length-pieces (x ∷ xs) =
+    let l = length-pieces xs in
+    either (eqb x 0) (λ e. simp e (omega arith)) (λ e. simp e (rw (length-onto x (pieces xs) (omega arith)) (omega arith)))
+
 pieces-some : (xs : List ℕ) → 1 ≤ length (pieces xs)
-unfolding pieces
-pieces-some [] = omega arith
-pieces-some (x ∷ xs) =
-    either (eqb x 0) (λ e. simp e (omega arith)) (λ e. simp e (rw (length-onto x (pieces xs) (pieces-some xs)) (pieces-some xs)))
+pieces-some xs = omega (arith, length-pieces xs)
 
 pub pieces-zero : (x : ℕ) (xs : List ℕ) → x ≡ 0 → pieces (x ∷ xs) ≡ [] ∷ pieces xs
 unfolding pieces
@@ -34,38 +39,54 @@ pieces-byte x xs n = simp (ne-eqb x 0 n)
 one-byte : (b : List ℕ) (i e : ℕ) → i < e → e ≤ length b → slice i e b ≡ getD b i 0 ∷ slice (i + 1) e b
 one-byte b i e h l = rw add-one (slice-cons i e b 0 h l)
 
--- n pieces end before i, and one is open there
-pub record Cutting (b : List ℕ) (start e n i : ℕ) : Type 0 where
-  pub from : start ≤ i
-  pub bound : i ≤ e
-  pub few : n + start ≤ i + 1
-  pub rest : n + length (pieces (slice i e b)) ≡ 1 + length (pieces (slice start e b))
+-- ---- counting zero bytes
 
-module _ {b : List ℕ} {start e : ℕ} (inside : e ≤ length b) where
-  pub cut-start : start ≤ e → Cutting b start e 1 start
-  cut-start h = record { from = omega arith; bound = h; few = omega arith; rest = refl }
+zeros-append : (xs ys : List ℕ) → zeros (xs ++ ys) ≡ zeros xs + zeros ys
+unfolding zeros
+zeros-append [] ys = omega arith
+zeros-append (x ∷ xs) ys = omega (arith, zeros-append xs ys)
 
-  module _ {n i : ℕ} (c : Cutting b start e n i) where
-    pub cut-zero : i < e → getD b i 0 ≡ 0 → Cutting b start e (n + 1) (i + 1)
-    cut-zero h z =
-        let l : length (pieces (slice i e b)) ≡ suc (length (pieces (slice (i + 1) e b))) =
-        ap (λ (xs : List ℕ). length (pieces xs)) (one-byte b i e h inside) ∙ ap length (pieces-zero (getD b i 0) (slice (i + 1) e b) z) in
-        record { from = omega arith; bound = omega arith; few = omega arith; rest = omega (arith, c .rest) }
+slice-split : (i j e : ℕ) (b : List ℕ) → i ≤ j → j ≤ e → slice i e b ≡ slice i j b ++ slice j e b
+slice-split zero j e b h k = sym (take-append-drop j (take e b)) ∙ ap (λ (x : List ℕ). x ++ slice j e b) (take-take j e b k)
+slice-split (suc i) zero e b h k = absurd (omega arith)
+slice-split (suc i) (suc j) zero b h k = absurd (omega arith)
+slice-split (suc i) (suc j) (suc e) [] h k = refl
+slice-split (suc i) (suc j) (suc e) (x ∷ b) h k = slice-split i j e b (omega arith) (omega arith)
 
-    pub cut-byte : i < e → (getD b i 0 ≡ 0 → ⊥) → Cutting b start e n (i + 1)
-    cut-byte h z =
-        let l : length (pieces (slice i e b)) ≡ length (pieces (slice (i + 1) e b)) =
-        ap (λ (xs : List ℕ). length (pieces xs)) (one-byte b i e h inside)
-        ∙ ap length (pieces-byte (getD b i 0) (slice (i + 1) e b) z)
-        ∙ length-onto (getD b i 0) (pieces (slice (i + 1) e b)) (pieces-some (slice (i + 1) e b)) in
-        record { from = omega arith; bound = omega arith; few = omega arith; rest = omega (arith, c .rest) }
+module _ {b : List ℕ} where
+  pub count-none : {i : ℕ} → Counted b i i 0
+  unfolding zeros
+  count-none {i} = record { order = omega arith; few = omega arith; is = sym (ap zeros (slice-empty i b)) }
 
-    pub cut-last : e ≤ i → n ≡ length (pieces (slice start e b))
-    unfolding pieces
-    cut-last h =
-        let k : i ≡ e = omega arith in
-        let l : length (pieces (slice i e b)) ≡ 1 = ap (λ (j : ℕ). length (pieces (slice j e b))) k ∙ ap (λ (xs : List ℕ). length (pieces xs)) (slice-empty e b) in
-        omega (arith, c .rest)
+  pub count-more : {i j e n m : ℕ} → Counted b i j n → Counted b j e m → Counted b i e (n + m)
+  count-more {i} {j} {e} c d =
+      let z = ap zeros (slice-split i j e b (c .order) (d .order)) ∙ zeros-append (slice i j b) (slice j e b) in
+      record { order = omega (arith, c .order, d .order); few = omega (arith, c, d); is = omega (arith, z, c .is, d .is) }
+
+  module _ {i : ℕ} (h : i < length b) where
+    count-one : {n : ℕ} → n ≤ 1 → n ≡ zeros (getD b i 0 ∷ []) → Counted b i (i + 1) n
+    count-one l z = record {
+      order = omega arith;
+      few = omega arith;
+      is = z ∙ sym (ap zeros (one-byte b i (i + 1) (omega arith) (omega arith) ∙ ap (λ (xs : List ℕ). getD b i 0 ∷ xs) (slice-empty (i + 1) b)));
+    }
+
+    pub count-zero : getD b i 0 ≡ 0 → Counted b i (i + 1) 1
+    unfolding zeros
+    count-zero z = count-one (omega arith) (simp (eq-eqb (getD b i 0) 0 z))
+
+    pub count-byte : (getD b i 0 ≡ 0 → ⊥) → Counted b i (i + 1) 0
+    unfolding zeros
+    count-byte z = count-one (omega arith) (simp (ne-eqb (getD b i 0) 0 z))
+
+  module _ {start i e n : ℕ} (c : Counted b start i n) (h : i ≤ e) (l : e ≤ i) where
+    pub count-end : Counted b start e n
+    count-end =
+        let z : i ≡ e = omega arith in
+        rw z at c
+
+    pub count-last : n + 1 ≡ length (pieces (slice start e b))
+    count-last = omega (arith, count-end .is, length-pieces (slice start e b))
 
 -- ---- finding a piece
 
@@ -82,16 +103,40 @@ onto-later : (x : ℕ) (ps : List (List ℕ)) (j : ℕ) → 1 ≤ length ps → 
 onto-later x [] j h = absurd (omega arith)
 onto-later x (p ∷ ps) j h = refl
 
+-- a piece that begins after xs
+pieces-later : (xs ys : List ℕ) (j : ℕ) → getD (pieces (xs ++ ys)) (zeros xs + suc j) [] ≡ getD (pieces ys) (suc j) []
+unfolding pieces zeros
+pieces-later [] ys j =
+    let z : 0 + suc j ≡ suc j = omega arith in
+    rw z
+pieces-later (x ∷ xs) ys j =
+    let z : 1 + zeros xs + suc j ≡ suc (zeros xs + suc j) = omega arith in
+    let y : 0 + zeros xs + suc j ≡ suc (zeros xs + j) = omega arith in
+    let w : zeros xs + suc j ≡ suc (zeros xs + j) = omega arith in
+    either (eqb x 0)
+    (λ e. simp e (rw z (pieces-later xs ys j)))
+    (λ e. simp e (rw y (onto-later x (pieces (xs ++ ys)) (zeros xs + j) (pieces-some (xs ++ ys)) ∙ rw w at (pieces-later xs ys j))))
+
 module _ {b : List ℕ} {e index : ℕ} where
-  pub seek-start : HasPiece b e index → Seeking b e index 1 40
-  seek-start p = record {
-    inside = p .inside;
-    after = omega arith;
-    bound = p .heap;
-    order = p .least;
-    most = omega (arith, p .most, p .least);
-    is = refl;
-  }
+  pub first-starts : HasPiece b e index → index ≡ 1 → Starts b e index 40
+  first-starts p z = rw z (record { inside = p .heap; after = omega arith; is = refl })
+
+  pub seek-start : HasPiece b e index → (index ≡ 1 → ⊥) → {s : Skipped} → Skips b 40 e (index - 2) s → Seeking b e index (s .zeros + 1) (s .at)
+  seek-start p m {s} k =
+      let xs : List ℕ = slice 40 (s .at) b in
+      let ys : List ℕ = slice (s .at) e b in
+      let split : heapOf b e ≡ xs ++ ys = slice-split 40 (s .at) e b (k .counted .order) (k .bound) in
+      let j : ℕ = index - 2 - s .zeros in
+      let n : index - (s .zeros + 1) ≡ suc j = omega (arith, p .least, k .few) in
+      let z : index - 1 ≡ zeros xs + suc j = omega (arith, p .least, k .few, k .counted .is) in
+      record {
+        inside = p .inside;
+        after = k .counted .order;
+        bound = k .bound;
+        order = omega (arith, p .least, k .few);
+        most = omega (arith, p .most, p .least, k .few, k .counted .is, ap length (ap pieces split), length-pieces (xs ++ ys), zeros-append xs ys, length-pieces ys);
+        is = rw (n, z, split) (sym (pieces-later xs ys j));
+      }
 
   module _ {k i : ℕ} (s : Seeking b e index k i) where
     -- a piece further on is not the last, so a byte is left

@@ -9,6 +9,7 @@ use lib.ListN.{length, getD}
 use lib.Seq.{slice}
 use Rattle.text.specs.Utf8.{lossy}
 use Rattle.reader.specs.declared.names.Piece.{Piece}
+use Rattle.reader.specs.declared.names.Skipped.{Skipped}
 
 -- one byte before the first piece
 abbrev pub onto : ℕ → List (List ℕ) → List (List ℕ)
@@ -19,6 +20,11 @@ onto x (p ∷ ps) = (x ∷ p) ∷ ps
 unfoldable pub pieces : List ℕ → List (List ℕ)
 pieces [] = [] ∷ []
 pieces (x ∷ xs) = cond (eqb x 0) ([] ∷ pieces xs) (onto x (pieces xs))
+
+-- how many bytes are zero
+unfoldable pub zeros : List ℕ → ℕ
+zeros [] = 0
+zeros (x ∷ xs) = cond (eqb x 0) 1 0 + zeros xs
 
 -- the pieces from byte i up to end, none past it
 unfoldable pub piecesFrom : List ℕ → ℕ → ℕ → List (List ℕ)
@@ -37,6 +43,18 @@ abbrev pub shownName : List ℕ → ℕ → ℕ → List ℕ
 shownName b end i = lossy (nameBytes b end i)
 
 -- ---- what the stages that find a name promise each other
+
+-- n zero bytes from start up to i
+pub record Counted (b : List ℕ) (start i n : ℕ) : Type 0 where
+  pub order : start ≤ i
+  pub few : n ≤ i - start
+  pub is : n ≡ zeros (slice start i b)
+
+-- the bytes that were passed hold no more than most zero bytes
+pub record Skips (b : List ℕ) (start end most : ℕ) (s : Skipped) : Type 0 where
+  pub bound : s .at ≤ end
+  pub few : s .zeros ≤ most
+  pub counted : Counted b start (s .at) (s .zeros)
 
 -- the heap up to end has piece index, from 1
 pub record HasPiece (b : List ℕ) (end index : ℕ) : Type 0 where

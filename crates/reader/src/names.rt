@@ -1,35 +1,84 @@
 // The name heap: pieces of bytes, cut at zero bytes.
 use crate::file_wrapper::FileWrapper;
+use crate::file_wrapper::HEADER;
 use crate::file_wrapper::ParseReply;
 use text::error::MatError;
 use text::utf8::LossyReply;
 use text::utf8::write_lossy;
 ghost use mathlib.Core.Path.{_≡_};
-ghost use Prim.Native.Nat.{_≤_};
+ghost use Prim.Native.Nat.{_+_, _≤_, _<_};
 ghost use lib.ListN.{length};
 ghost use lib.Seq.{slice};
 ghost use Rattle.text.specs.Result.{ok};
 ghost use Rattle.text.specs.Utf8.{lossy};
-ghost use Rattle.reader.specs.Names.{pieces, HasPiece, Starts, FirstPiece, HasName, IsName, pieceBytes, InBlob};
+ghost use Rattle.reader.specs.Names.{pieces, Counted, Skips, HasPiece, Starts, FirstPiece, HasName, IsName, pieceBytes, InBlob};
 ghost use Rattle.reader.specs.Queries.{nameText};
 ghost use Rattle.reader.specs.Replies.{WritesText};
+
+// Zero bytes are counted by blocks: a count of one byte over a known number of bytes is compiled to vector operations, 16 bytes in each.
+const BLOCK: usize = 64;
+
+// 1 where the byte at i is zero, else 0.
+fn count_zero(blob: &[u8], i: usize) -> u8
+    requires { ⌜ i < length (now blob) ⌝ }
+    ensures { λ r. ⌜ Counted (now (blob .entry)) i (i + 1) r ⌝ }
+{
+    if blob[i] == 0 { 1 } else { 0 }
+}
+
+// How many bytes of the block at start are zero.
+fn count_zeros(blob: &[u8], start: usize) -> usize
+    requires { ⌜ start + 64 ≤ length (now blob) ⌝ }
+    ensures { λ r. ⌜ Counted (now (blob .entry)) start (start + 64) r ⌝ }
+{
+    let end = start + BLOCK;
+    let mut n: u8 = 0;
+    let mut i = start;
+    while i < end {
+        n += count_zero(blob, i);
+        i += 1;
+    }
+    n as usize
+}
+
+// Zero bytes that were passed, and where the next byte is.
+struct Skipped {
+    zeros: usize,
+    at: usize,
+}
+
+// Passes whole blocks from start on, as long as they hold no more than most zero bytes.
+fn skip_blocks(blob: &[u8], start: usize, end: usize, most: usize) -> Skipped
+    requires { ⌜ (start ≤ end) × (end ≤ length (now blob)) ⌝ }
+    ensures { λ r. ⌜ Skips (now (blob .entry)) start end most r ⌝ }
+{
+    let mut zeros: usize = 0;
+    let mut at = start;
+    while BLOCK <= end - at {
+        let more = zeros + count_zeros(blob, at);
+        if most < more {
+            return Skipped { zeros, at };
+        }
+        zeros = more;
+        at += BLOCK;
+    }
+    Skipped { zeros, at }
+}
 
 // The number of pieces of the bytes from start up to end: the zero bytes, and one more.
 pub(crate) fn count_pieces(blob: &[u8], start: usize, end: usize) -> usize
     requires { ⌜ (start ≤ end) × (end ≤ length (now blob)) ⌝ }
     ensures { λ r. ⌜ r ≡ length (pieces (slice start end (now (blob .entry)))) ⌝ }
 {
-    let mut n: usize = 1;
-    let mut i = start;
+    // Not more than all bytes are zero, so every whole block is passed.
+    let blocks = skip_blocks(blob, start, end, end - start);
+    let mut n = blocks.zeros;
+    let mut i = blocks.at;
     while i < end {
-        if blob[i] == 0 {
-            n += 1;
-            i += 1;
-            continue;
-        }
+        n += count_zero(blob, i) as usize;
         i += 1;
     }
-    n
+    n + 1
 }
 
 // Where a name's bytes begin and end in the blob.
@@ -43,8 +92,13 @@ fn piece_start(blob: &[u8], end: usize, index: usize) -> usize
     requires { ⌜ HasPiece (now blob) end index ⌝ }
     ensures { λ r. ⌜ Starts (now (blob .entry)) end index r ⌝ }
 {
-    let mut k: usize = 1;
-    let mut i: usize = 40;
+    if index == 1 {
+        return HEADER;
+    }
+    // The piece begins after zero byte index - 1, whose block is not passed.
+    let blocks = skip_blocks(blob, HEADER, end, index - 2);
+    let mut k = blocks.zeros + 1;
+    let mut i = blocks.at;
     while k < index {
         if blob[i] == 0 {
             k += 1;
