@@ -7,7 +7,7 @@ use std::time::{Duration, Instant};
 use bench::edited::EditedList;
 use bench::generate::blobs::Plan;
 use bench::generate::lists::MAGIC;
-use mcos::{Array, Buffers, Counts, FileWrapper, Property};
+use mcos::{Array, Buffers, Counts, FileWrapper, ObjectRow, Property};
 
 /// Each side is timed so many times, in turn; the best counts.
 const TURNS: usize = 60;
@@ -22,6 +22,7 @@ fn main() {
     println!("| what | library | Rust | library / Rust |");
     println!("|---|---:|---:|---:|");
     opening();
+    listing();
     names();
     objects();
     payloads();
@@ -118,19 +119,55 @@ fn opening() {
     }
 }
 
-/// The library opens the blob for each query. The Rust opens it once: its time
-/// is given with the opening and without.
-fn queries(what: &str, blob: &[u8], mut library: impl FnMut(), ask: impl Fn(&oracle::Store)) {
-    let opened = oracle::open(blob).expect("a good blob");
-    let mut with = || ask(&oracle::open(black_box(blob)).expect("a good blob"));
-    let times = best(&mut library, &mut with);
+/// The Rust has no listing of objects: its side opens the blob and reads the
+/// properties of each.
+fn listing() {
+    const OBJECTS: u32 = 5_000;
+    let blob = oracle::build_metadata(OBJECTS as usize).expect("a small number");
+    let mut rows = vec![ObjectRow::default(); OBJECTS as usize];
+    let mut library = || {
+        black_box(mcos::list_objects(black_box(&blob), &mut rows)).expect("objects");
+    };
+    let mut rust = || {
+        let store = oracle::open(black_box(&blob)).expect("a good blob");
+        for id in 1..=OBJECTS {
+            black_box(store.properties(id)).expect("properties");
+        }
+    };
+    let times = best(&mut library, &mut rust);
     row(
-        &format!("{what}; the Rust opens once"),
+        "list 5,000 objects; the Rust reads each",
         times,
-        stand_in(blob),
+        stand_in(&blob),
     );
+}
+
+/// `count` queries, numbered from 1. The library opens the blob for each. The
+/// Rust's time is given with an opening for each, with one for all, and
+/// without.
+fn queries(
+    what: &str,
+    blob: &[u8],
+    count: u32,
+    mut library: impl FnMut(u32),
+    ask: impl Fn(&oracle::Store, u32),
+) {
+    let open = || oracle::open(black_box(blob)).expect("a good blob");
+    let ask_all = |store: &oracle::Store| (1..=count).for_each(|id| ask(store, id));
+    let mut library = || (1..=count).for_each(&mut library);
+    let spent = stand_in(blob);
+    let mut each = || (1..=count).for_each(|id| ask(&open(), id));
+    let times = best(&mut library, &mut each);
+    row(
+        &format!("{what}; each side opens for each"),
+        times,
+        f64::from(count) * spent,
+    );
+    let times = best(&mut library, &mut || ask_all(&open()));
+    row(&format!("{what}; the Rust opens once"), times, spent);
+    let opened = open();
     time(&format!("{what}; the Rust has opened"), library, || {
-        ask(&opened)
+        ask_all(&opened)
     });
 }
 
@@ -145,43 +182,46 @@ fn names() {
     };
     let blob = plan.blob();
     let mut text = [0; 64];
-    let library = || {
-        for index in 1..=NAMES {
+    queries(
+        "200 names of 12 bytes",
+        &blob,
+        NAMES,
+        |index| {
             black_box(mcos::name(black_box(&blob), index, &mut text)).expect("a name");
-        }
-    };
-    queries("200 names of 12 bytes", &blob, library, |store| {
-        for index in 1..=NAMES {
+        },
+        |store, index| {
             black_box(store.name(index)).expect("a name");
-        }
-    });
+        },
+    );
 }
 
 fn objects() {
     const OBJECTS: u32 = 100;
     let blob = oracle::build_metadata(OBJECTS as usize).expect("a small number");
     let mut text = [0; 64];
-    let library = || {
-        for id in 1..=OBJECTS {
+    queries(
+        "classes of 100 objects",
+        &blob,
+        OBJECTS,
+        |id| {
             black_box(mcos::object_class_name(black_box(&blob), id, &mut text)).expect("a class");
-        }
-    };
-    queries("classes of 100 objects", &blob, library, |store| {
-        for id in 1..=OBJECTS {
+        },
+        |store, id| {
             black_box(store.class(id)).expect("a class");
-        }
-    });
+        },
+    );
     let mut rows = [Property::default(); 4];
-    let library = || {
-        for id in 1..=OBJECTS {
+    queries(
+        "properties of 100 objects",
+        &blob,
+        OBJECTS,
+        |id| {
             black_box(mcos::properties(black_box(&blob), id, &mut rows)).expect("properties");
-        }
-    };
-    queries("properties of 100 objects", &blob, library, |store| {
-        for id in 1..=OBJECTS {
+        },
+        |store, id| {
             black_box(store.properties(id)).expect("properties");
-        }
-    });
+        },
+    );
 }
 
 fn payloads() {
@@ -216,12 +256,19 @@ fn payloads() {
             .expect("an array");
         };
         write();
+        let what = format!("write 1,000 strings of 40 characters, {name}");
         let rust = || oracle::encode_payload(black_box(&strings), &rust_dims);
         time(
-            &format!("write 1,000 strings of 40 characters, {name}"),
-            write,
-            rust,
+            &format!("{what}; the Rust checks the text"),
+            &mut write,
+            || {
+                for string in black_box(&strings) {
+                    black_box(std::str::from_utf8(string.as_bytes())).expect("a text");
+                }
+                rust()
+            },
         );
+        time(&format!("{what}; the Rust does not"), write, rust);
         assert_eq!(words, payload);
 
         let (mut read_text, mut read_spans) = (vec![0; text.len()], vec![0; spans.len()]);
