@@ -3,7 +3,7 @@
 use mathlib.Core.Path.{_≡_, refl, sym, ap, _∙_, subst}
 use mathlib.Core.Bool.{true, false}
 use mathlib.Core.List.{List, [], _∷_, _++_}
-use Prim.Native.Nat.{ℕ, zero, suc, _+_, _-_, _^_, _≤_, _<_, min}
+use Prim.Native.Nat.{ℕ, zero, suc, _+_, _-_, _*_, _^_, _≤_, _<_, min}
 use native.Mathlib.Numerals.{add-one}
 use native.Mathlib.Omega.{arith}
 use borrow.Author.Tests.{le-leb, lt-leb, leb-true}
@@ -16,7 +16,7 @@ use Rattle.text.specs.declared.error.MatError.{MatError}
 use Rattle.text.specs.declared.error.MatError.the-variants.{OutputTooShort}
 use Rattle.text.proofs.ResultLaws.{reply-is, seq-passed, seq-failed, bind-passed}
 use Rattle.text.proofs.TestLaws.{either}
-use Rattle.reader.specs.Objects.{objectOf, objectsFrom, objectRows}
+use Rattle.reader.specs.Objects.{checkBlock, objectRow, recordRow, objectOf, objectsFrom, objectRows}
 use Rattle.reader.specs.ObjectStages.{firstBlocks, AreCursors, ToObject, objectReplyOf, Stands, ReadsObject, checkObjects, allObjects, noRow, blankRows, listingReplyOf, lastRow, countOf, Listable, IsListing, Lists, ToNext, NextObject}
 use Rattle.reader.specs.Opening.{opened, Opens}
 use Rattle.reader.specs.Queries.{objectRecord, intoOutput}
@@ -32,6 +32,7 @@ use Rattle.reader.specs.declared.objects.Listing.the-variants as listing
 use Rattle.reader.specs.declared.objects.ObjectReply.{ObjectReply}
 use Rattle.reader.specs.declared.objects.ObjectReply.the-variants as object
 use Rattle.reader.specs.declared.objects.ObjectRow.{ObjectRow}
+use Rattle.reader.specs.declared.records.ObjectRecord.{ObjectRecord}
 use Rattle.reader.specs.declared.objects.ObjectsReply.{ObjectsReply}
 use Rattle.reader.specs.declared.objects.ObjectsReply.the-variants as objects
 use Rattle.reader.proofs.NameLaws.{parsed}
@@ -53,40 +54,41 @@ module _ (b : List ℕ) (w : FileWrapper) (id n : ℕ) where
   check-no e = rw e
 
 -- the objects before id have passed
-pub record Passing (b : List ℕ) (w : FileWrapper) (cs : Cursors) (id : ℕ) : Type 0 where
+pub record Passing (b : List ℕ) (w : FileWrapper) (id : ℕ) : Type 0 where
   pub fits : id < 2 ^ 32
-  pub cursors : AreCursors b w cs
   pub rest : checkObjects b w 1 (w .records - 1) ≡ checkObjects b w id (w .records - id)
 
 module _ {b : List ℕ} {w : FileWrapper} (o : Opens b w) where
   few : w .records ≤ 699050
   few = omega (arith, o)
 
-  pub passing-start : {cs : Cursors} → cs ≡ firstBlocks w → Passing b w cs 1
-  passing-start e = record { fits = omega arith; cursors = cursors-start e; rest = refl }
+  pub passing-start : Passing b w 1
+  passing-start = record { fits = omega arith; rest = refl }
 
   pub passing-fits : {id : ℕ} → id < w .records → id + 1 < 2 ^ 32
   passing-fits h = omega (arith, few)
 
-  module _ {cs : Cursors} {id : ℕ} (p : Passing b w cs id) where
+  pub passing-inside : {id : ℕ} → id < w .records → w .offsets .o2 + 24 * id + 24 ≤ length b
+  passing-inside h = omega (arith, o, o .object-records)
+
+  module _ {id : ℕ} (p : Passing b w id) where
     module _ (h : id < w .records) where
       more : w .records - id ≡ suc (w .records - suc id)
       more = omega arith
 
-      pub passing-read : ToObject b w cs id
-      passing-read = record { opens = o; cursors = p .cursors; below = h }
-
-      module _ {y : ObjectReply} (read : ReadsObject b w (objectRecord b w id) y) where
-        pub passing-turn : {row : ObjectRow} {at : ℕ} {cs' : Cursors} → y ≡ object.Object row at cs' → Passing b w cs' (id + 1)
+      module _ {r : ObjectRecord} (is : r ≡ objectRecord b w id) {y : Checked} (said : checkedOf y ≡ checkBlock w r) where
+        pub passing-turn : y ≡ checked.Passed → Passing b w (id + 1)
+        unfolding recordRow
         passing-turn g =
-            record {
-              fits = passing-fits h;
-              cursors = (subst (Stands b w (objectRecord b w id)) g (read .stands)) .1;
-              rest = rw add-one (rw more at (p .rest) ∙ check-yes b w id (w .records - suc id) (reply-is objectReplyOf (read .reply) g));
-            }
+            let k : checkBlock w (objectRecord b w id) ≡ ok tt = rw is at (reply-is checkedOf said g) in
+            let row : objectOf b w id ≡ ok (objectRow b w (objectRecord b w id)) = rw k in
+            record { fits = passing-fits h; rest = rw add-one (rw more at (p .rest) ∙ check-yes b w id (w .records - suc id) row) }
 
-        pub passing-stop : {e : MatError} → y ≡ object.Error e → checkedOf (checked.Failed e) ≡ checkObjects b w 1 (w .records - 1)
-        passing-stop g = sym (rw more at (p .rest) ∙ check-no b w id (w .records - suc id) (reply-is objectReplyOf (read .reply) g))
+        pub passing-stop : {e : MatError} → y ≡ checked.Failed e → checkedOf (checked.Failed e) ≡ checkObjects b w 1 (w .records - 1)
+        unfolding recordRow
+        passing-stop g =
+            let k = rw is at (reply-is checkedOf said g) in
+            sym (rw more at (p .rest) ∙ check-no b w id (w .records - suc id) (rw k))
 
     pub passing-last : w .records ≤ id → checkedOf checked.Passed ≡ checkObjects b w 1 (w .records - 1)
     unfolding objectsFrom

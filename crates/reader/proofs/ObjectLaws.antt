@@ -117,6 +117,33 @@ module _ {b : List ℕ} {w : FileWrapper} {cs : Cursors} {k : BlockId} (to : ToB
     pub block-found : {c : Cursor} → c ≡ cursorAt 12 b start (k .id) → c ≡ cursorAt 12 b (regionStart w (k .region)) (k .id)
     block-found e = rw s at e
 
+-- ---- check 10
+
+module _ (w : FileWrapper) (r : ObjectRecord) {k : BlockId} (chosen : k ≡ blockOf r) where
+  block-is : k .id ≡ blockIdOf r
+  block-is = ap (λ (x : BlockId). x .id) chosen
+
+  pub block-none : k .id ≡ 0 → checkedOf checked.Passed ≡ checkBlock w r
+  unfolding checkBlock
+  block-none z = simp (eq-eqb (blockIdOf r) 0 (sym block-is ∙ z))
+
+  module _ (some : k .id ≡ 0 → ⊥) where
+    has-block : eqb (blockIdOf r) 0 ≡ false
+    has-block = ne-eqb (blockIdOf r) 0 (λ z. some (block-is ∙ z))
+
+    module _ {n : ℕ} (e : n ≡ regionBlocks w (k .region)) where
+      pub block-outside : n ≤ k .id → checkedOf (checked.Failed (PropertyBlockIdOutOfRange (k .id))) ≡ checkBlock w r
+      unfolding checkBlock
+      block-outside h =
+          let l : regionBlocks w (regionOf r) ≤ blockIdOf r = rw (e, chosen) at h in
+          simp (has-block, le-ltb (blockIdOf r) (regionBlocks w (regionOf r)) l) (rw chosen)
+
+      pub block-inside : k .id < n → checkedOf checked.Passed ≡ checkBlock w r
+      unfolding checkBlock
+      block-inside h =
+          let l : blockIdOf r < regionBlocks w (regionOf r) = rw (e, chosen) at h in
+          simp (has-block, lt-ltb (blockIdOf r) (regionBlocks w (regionOf r)) l)
+
 -- ---- one object
 
 module _ {b : List ℕ} {w : FileWrapper} {cs : Cursors} {id : ℕ} (to : ToObject b w cs id) where
@@ -130,13 +157,10 @@ module _ {b : List ℕ} {w : FileWrapper} {cs : Cursors} {id : ℕ} (to : ToObje
     of-id : {x : ObjectReply} → ReadsObject b w r x → ReadsObject b w (objectRecord b w id) x
     of-id {x} = subst (λ (y : ObjectRecord). ReadsObject b w y x) is
 
-    id-is : k .id ≡ blockIdOf r
-    id-is = ap (λ (x : BlockId). x .id) chosen
-
     pub object-none : k .id ≡ 0 → {row : ObjectRow} → row ≡ rowFrom r k 0 → ReadsObject b w (objectRecord b w id) (object.Object row 0 cs)
     unfolding recordRow checkBlock blockStart propertyCount
     object-none here {row} e =
-        let t = eq-eqb (blockIdOf r) 0 (sym id-is ∙ here) in
+        let t = eq-eqb (blockIdOf r) 0 (sym (block-is w r chosen) ∙ here) in
         of-id (record {
           reply = simp t (ap ok (rw (e, chosen)));
           stands = (record { is = simp t; inside = rw e (omega (arith, record-inside)) }, to .cursors);
@@ -144,7 +168,7 @@ module _ {b : List ℕ} {w : FileWrapper} {cs : Cursors} {id : ℕ} (to : ToObje
 
     module _ (some : k .id ≡ 0 → ⊥) where
       has-id : eqb (blockIdOf r) 0 ≡ false
-      has-id = ne-eqb (blockIdOf r) 0 (λ z. some (id-is ∙ z))
+      has-id = has-block w r chosen some
 
       pub object-outside : {n : ℕ} → n ≡ regionBlocks w (k .region) → n ≤ k .id → ReadsObject b w (objectRecord b w id) (object.Error (PropertyBlockIdOutOfRange (k .id)))
       unfolding recordRow checkBlock

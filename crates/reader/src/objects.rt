@@ -11,7 +11,7 @@ use text::error::MatError;
 ghost use mathlib.Core.Path.{_≡_};
 ghost use Prim.Native.Nat.{_-_};
 ghost use Rattle.reader.specs.Blocks.{cursorAt};
-ghost use Rattle.reader.specs.Objects.{regionStart, regionBlocks};
+ghost use Rattle.reader.specs.Objects.{regionStart, regionBlocks, checkBlock};
 ghost use Rattle.reader.specs.Opening.{Opens};
 ghost use Rattle.reader.specs.Queries.{checkObject, objectRecord};
 ghost use Rattle.reader.specs.ObjectStages.{blockOf, cursorOf, withCursor, firstBlocks, rowFrom, ToBlock, ToObject, ReadsObject, checkObjects, noRow, blankRows, objectList, countOf, lastRow, listingReplyOf, Lists, ToNext, NextObject};
@@ -193,25 +193,31 @@ fn object_row(object: ObjectRecord, block: BlockId, property_count: u32) -> Obje
     }
 }
 
-// Check 10 for each object, in one walk of each region where block ids do not fall.
+// Check 10 for an object.
+fn check_block(w: FileWrapper, object: ObjectRecord) -> Checked
+    ensures { λ r. ⌜ checkedOf r ≡ checkBlock w object ⌝ }
+{
+    let block = block_of(object);
+    if block.id == 0 {
+        return Checked::Passed;
+    }
+    if region_blocks(w, block.region) <= block.id as usize {
+        return Checked::Failed(MatError::PropertyBlockIdOutOfRange(block.id as u64));
+    }
+    Checked::Passed
+}
+
+// Check 10 for each object, which looks at no block.
 fn check_objects(blob: &[u8], w: FileWrapper) -> Checked
     requires { ⌜ Opens (now blob) w ⌝ }
     ensures { λ r. ⌜ checkedOf r ≡ checkObjects (now (blob .entry)) w 1 (w .records - 1) ⌝ }
 {
-    let mut cursors = first_blocks(w);
     let mut id: u32 = 1;
     while (id as usize) < w.records {
-        match read_object(blob, w, cursors, id) {
-            ObjectReply::Object {
-                row: _,
-                at: _,
-                cursors: after,
-            } => {
-                cursors = after;
-            }
-            ObjectReply::Error(e) => {
-                return Checked::Failed(e);
-            }
+        let at = w.offsets.o2 + ObjectRecord::SIZE * id as usize;
+        let object = ObjectRecord::read(blob, at);
+        if let Checked::Failed(e) = check_block(w, object) {
+            return Checked::Failed(e);
         }
         id += 1;
     }
