@@ -6,33 +6,34 @@ use mathlib.Core.List.{List, [], _∷_}
 use mathlib.Core.Option.{Option, some, none}
 use Prim.Native.Nat.{ℕ, zero, suc, _+_, _-_, _*_, _≤_, _<_}
 use native.Mathlib.Omega.{arith}
-use borrow.Author.Tests.{eq-eqb, ne-eqb, lt-ltb, le-ltb, leb-true, ltb-true, ltb-false}
-use lib.Dec.{eqb, leb, ltb}
-use lib.ListN.{length, take, drop}
-use lib.Seq.{slice-empty}
+use borrow.Author.Tests.{eq-eqb, lt-ltb, le-ltb, le-leb, lt-leb, leb-true, ltb-true, ltb-false}
+use lib.Dec.{leb, ltb}
+use lib.ListN.{length, getD, take, drop, set, length-set}
+use lib.Seq.{getD-set-same, getD-set-other}
 use Rattle.text.specs.Buffer.{same}
 use Rattle.text.specs.Result.{Result, ok, error, _>>_, _>>=_}
 use Rattle.text.specs.Utf8.{lossy}
 use Rattle.text.specs.declared.error.Failure.{Failure}
 use Rattle.text.specs.declared.error.MatError.{MatError}
 use Rattle.text.proofs.ResultLaws.{reply-is, check-passed, seq-passed}
-use Rattle.text.proofs.TestLaws.{either, equal-or}
-use Rattle.reader.specs.Names.{pieces, heapOf, nameBytes, pieceBytes, InBlob, FirstPiece}
+use Rattle.text.proofs.TestLaws.{either, equal-or, not-both}
+use Rattle.reader.specs.Names.{pieces, heapOf, nameBytes, FirstPiece, Standing}
 use Rattle.reader.specs.Objects.{triplesFrom, checkTriple, checkTriples, recordTriples, objectTriples, position, isNamed, findProperty}
-use Rattle.reader.specs.ObjectStages.{PassedTriples, triplesReplyOf, ReadsTriples, firstIndex, firstWith, nearest}
+use Rattle.reader.specs.ObjectStages.{TriplesIn, PassedTriples, triplesReplyOf, ReadsTriples, firstIndex, firstOf, isIn, flagged, shownIn, ToNames, Looks, Marks, Advances}
 use Rattle.reader.specs.Opening.{opened}
 use Rattle.reader.specs.Queries.{shown, checkObject, objectRecord}
 use Rattle.reader.specs.Replies.{findReplyOf}
 use Rattle.reader.specs.Wire.{tripleAt}
 use Rattle.reader.specs.declared.file_wrapper.FileWrapper.{FileWrapper}
 use Rattle.reader.specs.declared.find.FindReply.the-variants as find
-use Rattle.reader.specs.declared.names.Piece.{Piece}
+use Rattle.reader.specs.declared.find.Looked.{Looked}
+use Rattle.reader.specs.declared.find.Walk.{Walk}
 use Rattle.reader.specs.declared.properties.TriplesReply.{TriplesReply}
 use Rattle.reader.specs.declared.properties.TriplesReply.the-variants as triples
 use Rattle.reader.specs.declared.records.Triple.{Triple}
 use Rattle.reader.proofs.NameLaws.{part-slice}
 use Rattle.reader.proofs.PropertyLaws.{length-triples}
-use Rattle.reader.proofs.PieceLaws.{Standing, stand-start, stand-inside, stand-name, stand-next}
+use Rattle.reader.proofs.PieceLaws.{stand-start, stand-inside, stand-empty, stand-name, stand-next}
 
 -- ---- the first element for which a test holds
 
@@ -54,6 +55,11 @@ module _ {A : Type 0} (p : A → Bool) where
   position-some (x ∷ xs) h =
       either (p x) (λ e. simp e) (λ e. simp (e, position-some xs (λ z. h (simp e (ap suc z)))))
 
+  first-none : ((x : A) → p x ≡ false) → (xs : List A) → firstIndex p xs ≡ length xs
+  unfolding firstIndex
+  first-none h [] = refl
+  first-none h (x ∷ xs) = simp (h x, first-none h xs)
+
   -- the first with p or q comes before the first with p, and there it is the first with q
   first-or : (q r : A → Bool) → ((x : A) → r x ≡ (p x || q x)) → (xs : List A) → firstIndex r xs ≡ firstIndex q (take (firstIndex p xs) xs)
   unfolding firstIndex
@@ -68,169 +74,236 @@ take-triples b i zero n h = refl
 take-triples b i (suc m) zero h = absurd (omega arith)
 take-triples b i (suc m) (suc n) h = ap (λ (ts : List Triple). tripleAt b i ∷ ts) (take-triples b (i + 12) m n (omega arith))
 
--- none of the first k triples has the name index
-pub record Passing (b : List ℕ) (i n index k : ℕ) : Type 0 where
-  pub bound : k ≤ n
-  pub rest : firstWith b i n index ≡ k + firstWith b (i + 12 * k) (n - k) index
+module _ (p : ℕ → Bool) where
+  of-none : ((x : ℕ) → p x ≡ false) → (b : List ℕ) (i n : ℕ) → n ≡ firstOf p b i n
+  unfolding firstOf
+  of-none h b i n = sym (first-none (λ t. p (t .«name_idx»)) (λ t. h (t .«name_idx»)) (triplesFrom b i n) ∙ length-triples b i n)
 
-module _ {b : List ℕ} {i n index : ℕ} where
-  pub pass-start : Passing b i n index 0
+  of-le : (b : List ℕ) (i n : ℕ) → firstOf p b i n ≤ n
+  unfolding firstOf
+  of-le b i n = omega (arith, first-le (λ t. p (t .«name_idx»)) (triplesFrom b i n), length-triples b i n)
+
+  of-or : (q r : ℕ → Bool) → ((x : ℕ) → r x ≡ (p x || q x)) → (b : List ℕ) (i n : ℕ) → firstOf r b i n ≡ firstOf q b i (firstOf p b i n)
+  unfolding firstOf
+  of-or q r h b i n =
+      first-or (λ t. p (t .«name_idx»)) (λ t. q (t .«name_idx»)) (λ t. r (t .«name_idx»)) (λ t. h (t .«name_idx»)) (triplesFrom b i n)
+      ∙ ap (firstIndex (λ t. q (t .«name_idx»))) (take-triples b i (firstOf p b i n) n (of-le b i n))
+
+-- none of the first k triples passes the test
+pub record Passing (p : ℕ → Bool) (b : List ℕ) (i n k : ℕ) : Type 0 where
+  pub bound : k ≤ n
+  pub rest : firstOf p b i n ≡ k + firstOf p b (i + 12 * k) (n - k)
+
+module _ {p : ℕ → Bool} {b : List ℕ} {i n : ℕ} where
+  pub pass-start : Passing p b i n 0
   pass-start =
       let z : n - 0 ≡ n = omega arith in
       let y : i + 12 * 0 ≡ i = omega arith in
       record { bound = omega arith; rest = rw (z, y) (omega arith) }
 
-  module _ {k : ℕ} (p : Passing b i n index k) where
-    module _ {t : Triple} (h : k < n) (r : t ≡ tripleAt b (i + 12 * k)) where
-      step : firstWith b (i + 12 * k) (n - k) index ≡ cond (eqb (t .«name_idx») index) 0 (suc (firstWith b (i + 12 * (k + 1)) (n - (k + 1)) index))
-      unfolding firstWith firstIndex triplesFrom
+  module _ {k : ℕ} (s : Passing p b i n k) where
+    module _ {t : Triple} {v : Bool} (h : k < n) (r : t ≡ tripleAt b (i + 12 * k)) (e : v ≡ p (t .«name_idx»)) where
+      step : firstOf p b (i + 12 * k) (n - k) ≡ cond v 0 (suc (firstOf p b (i + 12 * (k + 1)) (n - (k + 1))))
+      unfolding firstOf firstIndex triplesFrom
       step =
           let m : n - k ≡ suc (n - (k + 1)) = omega arith in
           let a : i + 12 * (k + 1) ≡ i + 12 * k + 12 = omega arith in
-          rw (m, a, r)
+          rw (m, a, e, r)
 
-      pub pass-found : t .«name_idx» ≡ index → k ≡ firstWith b i n index
-      pass-found e = omega (arith, p .rest, rw (eq-eqb (t .«name_idx») index e) at step)
+      pub pass-found : v ≡ true → k ≡ firstOf p b i n
+      pass-found y = omega (arith, s .rest, rw y at step)
 
-      pub pass-turn : (t .«name_idx» ≡ index → ⊥) → Passing b i n index (k + 1)
-      pass-turn e = record { bound = omega arith; rest = omega (arith, p .rest, rw (ne-eqb (t .«name_idx») index e) at step) }
+      pub pass-turn : v ≡ false → Passing p b i n (k + 1)
+      pass-turn y = record { bound = omega arith; rest = omega (arith, s .rest, rw y at step) }
 
-    pub pass-last : n ≤ k → k ≡ firstWith b i n index
-    unfolding firstWith firstIndex triplesFrom
+    pub pass-last : n ≤ k → k ≡ firstOf p b i n
+    unfolding firstOf firstIndex triplesFrom
     pass-last h =
         let z : n - k ≡ 0 = omega arith in
-        omega (arith, rw z at (p .rest))
+        omega (arith, rw z at (s .rest))
 
--- ---- whether a piece is wanted
+-- ---- flags
 
-module _ {b : List ℕ} {p : Piece} (s : InBlob b p) (wanted : List ℕ) (i best index : ℕ) {t : Bool}
-    (l : t ≡ same (lossy (take (p .end - p .start) (drop (p .start) b))) wanted) where
-  is-wanted : t ≡ same (lossy (pieceBytes b p)) wanted
-  is-wanted = l ∙ ap (λ (x : List ℕ). same (lossy x) wanted) (part-slice (p .start) (p .end) b (s .order))
+module _ (flags : List Bool) (first e x : ℕ) where
+  pub flag-before : x < first → false ≡ flagged flags first e x
+  unfolding flagged
+  flag-before h = simp (lt-leb first x h)
 
-  pub nearer-wanted : t ≡ true → {r : ℕ} → r ≡ firstWith b i best index → r ≡ nearest b i best index p wanted
-  unfolding nearest
-  nearer-wanted e h = rw (sym is-wanted ∙ e) h
+  module _ (h : first ≤ x) where
+    pub flag-after : e ≤ x → false ≡ flagged flags first e x
+    unfolding flagged
+    flag-after l = simp (le-leb first x h, le-ltb x e l)
 
-  pub nearer-other : t ≡ false → best ≡ nearest b i best index p wanted
-  unfolding nearest
-  nearer-other e = rw (sym is-wanted ∙ e)
+    pub flag-here : x < e → getD flags (x - first) false ≡ flagged flags first e x
+    unfolding flagged
+    flag-here l = simp (le-leb first x h, lt-ltb x e l)
 
--- ---- the first triple whose name index is below k and passes a test
+-- ---- looking at a name
 
-abbrev below : (ℕ → Bool) → ℕ → ℕ → Bool
-below named k x = ltb x k && named x
+module _ {b : List ℕ} {w : FileWrapper} {x start : ℕ} (n : ToNames b w x (x + 1) start) where
+  declared : x ≤ length (pieces (heapOf b (w .offsets .o0)))
+  declared = omega (arith, n .few, n .opens .names)
 
-abbrev firstOf : (ℕ → Bool) → List Triple → ℕ
-firstOf named ts = firstIndex (λ (t : Triple). named (t .«name_idx»)) ts
+  pub look-inside : start ≤ w .offsets .o0
+  look-inside = stand-inside (n .heap) declared
+
+  module _ (wanted : List ℕ) {v : Bool} where
+    pub look-empty : x ≡ 0 → v ≡ same (lossy (take (40 - 40) (drop 40 b))) wanted → Looks b w wanted x (record { shown = v; next = start })
+    unfolding nameBytes
+    look-empty z l = record { is = l ∙ simp (eq-eqb x 0 z); heap = stand-empty (n .heap) z }
+
+    pub look-piece : (x ≡ 0 → ⊥) → {e : ℕ} → FirstPiece b start (w .offsets .o0) e → v ≡ same (lossy (take (e - start) (drop start b))) wanted
+        → Looks b w wanted x (record { shown = v; next = e + 1 })
+    look-piece z {e} f l = record {
+      is = l ∙ ap (λ (s : List ℕ). same (lossy s) wanted) (part-slice start e b (f .order) ∙ stand-name (n .heap) declared z f);
+      heap = stand-next (n .heap) declared z f;
+    }
+
+-- ---- a chunk of names
 
 or-false : (t : Bool) → t ≡ (t || false)
 or-false true = refl
 or-false false = refl
 
-module _ (named : ℕ → Bool) where
-  below-none : (ts : List Triple) → firstOf (below named 0) ts ≡ length ts
-  unfolding firstIndex
-  below-none [] = refl
-  below-none (t ∷ ts) = simp (le-ltb (t .«name_idx») 0 (omega arith), below-none ts)
+neither : (s t : Bool) → (s || t) ≡ false → (s ≡ false) × (t ≡ false)
+neither true t e = not-both refl e
+neither false t e = (refl, e)
 
-  -- each name index that passed its check is at most the number of names
-  below-all : (w : FileWrapper) (ts : List Triple) → checkTriples w ts ≡ ok tt → firstOf (below named (w .names + 1)) ts ≡ firstOf named ts
-  unfolding firstIndex checkTriples checkTriple
-  below-all w [] e = refl
-  below-all w (t ∷ ts) e =
-      let p = seq-passed (checkTriple w t) (checkTriples w ts) e in
-      let q = check-passed 11 (leb (t .«name_idx») (w .names)) (t .«name_idx») _ (p .1 .0) in
-      let l : t .«name_idx» < w .names + 1 = omega (arith, leb-true (t .«name_idx») (w .names) (q .0)) in
-      simp (lt-ltb (t .«name_idx») (w .names + 1) l, below-all w ts (p .1 .1))
+in-none : {first e : ℕ} → e ≤ first → (y : ℕ) → isIn first e y ≡ false
+in-none {first} {e} h y = either (leb first y) (λ t. simp (t, le-ltb y e (omega (arith, leb-true first y t)))) (λ t. simp t)
 
-  module _ (k : ℕ) where
-    other : (x : ℕ) → (x ≡ k → ⊥) → ltb x (k + 1) ≡ ltb x k
-    other x z =
-        either (ltb x k)
-        (λ e. lt-ltb x (k + 1) (omega (arith, ltb-true x k e)) ∙ sym e)
-        (λ e. le-ltb x (k + 1) (omega (arith, ltb-false x k e)) ∙ sym e)
+module _ {b : List ℕ} {w : FileWrapper} {wanted : List ℕ} {first e start : ℕ} (n : ToNames b w first e start) where
+  pub marks-start : {flags : List Bool} → length flags ≡ 4096 → Marks b w wanted first first flags (record { shown = false; next = start })
+  unfolding flagged shownIn
+  marks-start h = record {
+    order = omega arith;
+    size = h;
+    is = λ y. simp (in-none {first = first} {e = first} (omega arith) y);
+    none = λ _. λ y. simp (in-none {first = first} {e = first} (omega arith) y);
+    heap = n .heap;
+  }
 
-    below-yes : named k ≡ true → (x : ℕ) → below named (k + 1) x ≡ (below named k x || eqb x k)
-    below-yes y x =
-        equal-or x k
-        (λ z. simp (lt-ltb x (k + 1) (omega arith), le-ltb x k (omega arith), eq-eqb x k z, ap named z ∙ y))
-        (λ z. simp (other x z, ne-eqb x k z) (or-false (below named k x)))
+  module _ {x : ℕ} {flags : List Bool} {s : Bool} {at : ℕ} (k : Marks b w wanted first x flags (record { shown = s; next = at })) where
+    pub marks-name : x < e → ToNames b w x (x + 1) at
+    marks-name h = record { opens = n .opens; order = omega arith; size = omega arith; few = omega (arith, n .few); heap = k .heap }
 
-    below-no : named k ≡ false → (x : ℕ) → below named (k + 1) x ≡ below named k x
-    below-no y x =
-        equal-or x k (λ z. simp (lt-ltb x (k + 1) (omega arith), le-ltb x k (omega arith), ap named z ∙ y)) (λ z. simp (other x z))
+    module _ (h : x < e) {l : Looked} (o : Looks b w wanted x l) where
+      at-last : isIn first (x + 1) x ≡ true
+      at-last = simp (le-leb first x (k .order), lt-ltb x (x + 1) (omega arith))
 
-    -- the first below k + 1, from the first below k
-    below-more : (b : List ℕ) (i n : ℕ) {best : ℕ} → best ≤ n → best ≡ firstOf (below named k) (triplesFrom b i n)
-        → cond (named k) (firstWith b i best k) best ≡ firstOf (below named (k + 1)) (triplesFrom b i n)
-    unfolding firstWith
-    below-more b i n {best} h is =
-        let has : Triple → Bool = λ t. eqb (t .«name_idx») k in
-        let ts : List Triple = triplesFrom b i n in
-        either (named k)
-        (λ y. simp y
-        (sym (first-or (λ t. below named k (t .«name_idx»)) has (λ t. below named (k + 1) (t .«name_idx»)) (λ t. below-yes y (t .«name_idx»)) ts
-        ∙ ap (λ (m : ℕ). firstIndex has (take m ts)) (sym is)
-        ∙ ap (firstIndex has) (take-triples b i best n h))))
-        (λ y. simp y (is ∙ ap (λ (p : ℕ → Bool). firstOf p ts) (sym (fun-ext (below-no y)))))
+      before : (y : ℕ) → (y ≡ x → ⊥) → isIn first (x + 1) y ≡ isIn first x y
+      before y z =
+          let t : ltb y (x + 1) ≡ ltb y x =
+          either (ltb y x) (λ e. lt-ltb y (x + 1) (omega (arith, ltb-true y x e)) ∙ sym e) (λ e. le-ltb y (x + 1) (omega (arith, ltb-false y x e)) ∙ sym e) in
+          rw t
+
+      same-flag : (y : ℕ) → (y ≡ x → ⊥) → flagged (set flags (x - first) (l .shown)) first (x + 1) y ≡ flagged flags first x y
+      unfolding flagged
+      same-flag y z =
+          rw (before y z)
+          (either (leb first y)
+          (λ t. let q : y - first ≡ x - first → ⊥ = λ p. z (omega (arith, leb-true first y t, k .order)) in
+          ap (λ (f : Bool). isIn first x y && f) (getD-set-other flags (x - first) (y - first) (l .shown) false q))
+          (λ t. simp t))
+
+      same-shown : (y : ℕ) → (y ≡ x → ⊥) → shownIn b w wanted first (x + 1) y ≡ shownIn b w wanted first x y
+      unfolding shownIn
+      same-shown y z = rw (before y z)
+
+      here-shown : shownIn b w wanted first (x + 1) x ≡ l .shown
+      unfolding shownIn
+      here-shown = rw at-last (sym (o .is))
+
+      here-flag : flagged (set flags (x - first) (l .shown)) first (x + 1) x ≡ l .shown
+      unfolding flagged
+      here-flag = rw at-last (getD-set-same flags (x - first) (l .shown) false (omega (arith, k .order, k .size, n .size)))
+
+      pub marks-turn : Marks b w wanted first (x + 1) (set flags (x - first) (l .shown)) (record { shown = s || l .shown; next = l .next })
+      marks-turn = record {
+        order = omega (arith, k .order);
+        size = length-set flags (x - first) (l .shown) ∙ k .size;
+        is = λ y. equal-or y x (λ z. rw z (here-flag ∙ sym here-shown)) (λ z. same-flag y z ∙ k .is y ∙ sym (same-shown y z));
+        none = λ t. λ y. equal-or y x (λ z. rw z (here-shown ∙ neither s (l .shown) t .1)) (λ z. same-shown y z ∙ k .none (neither s (l .shown) t .0) y);
+        heap = o .heap;
+      }
+
+    pub marks-last : x ≤ e → e ≤ x → Marks b w wanted first e flags (record { shown = s; next = at })
+    marks-last h l =
+        let z : x ≡ e = omega arith in
+        rw z at k
+
+pub chunk-names : {b : List ℕ} {w : FileWrapper} {k e start : ℕ} → (k < e) × (e ≤ k + 4096) × (e ≤ w .names + 1) → ToNames b w k (k + 1) start → ToNames b w k e start
+chunk-names r n = record { opens = n .opens; order = omega arith; size = r .1; few = r .2; heap = n .heap }
+
+module _ {b : List ℕ} {w : FileWrapper} {wanted : List ℕ} {i e : ℕ} {from : Walk} {flags : List Bool} {m : Looked}
+    (r : (from .name < e) × (e ≤ from .name + 4096) × (e ≤ w .names + 1)) (k : Marks b w wanted (from .name) e flags m) where
+  advances : {best : ℕ} → best ≡ firstOf (shownIn b w wanted (from .name) e) b i (from .best) → Advances b w i wanted from (record { name = e; start = m .next; best = best })
+  advances z = record { more = r .0; few = r .2; heap = k .heap; is = z }
+
+  pub chunk-found : {best : ℕ} → best ≡ firstOf (flagged flags (from .name) e) b i (from .best)
+      → Advances b w i wanted from (record { name = e; start = m .next; best = best })
+  chunk-found z = advances (z ∙ ap (λ (p : ℕ → Bool). firstOf p b i (from .best)) (fun-ext (k .is)))
+
+  pub chunk-none : m .shown ≡ false → Advances b w i wanted from (record { name = e; start = m .next; best = from .best })
+  chunk-none z = advances (of-none (shownIn b w wanted (from .name) e) (k .none z) b i (from .best))
 
 -- ---- the walk of the name heap
 
-abbrev isShown : List ℕ → FileWrapper → List ℕ → ℕ → Bool
-isShown b w wanted i = same (shown b w i) wanted
+-- best is the first triple with a wanted name of those that have been looked at
+pub record Walking (b : List ℕ) (w : FileWrapper) (i n : ℕ) (wanted : List ℕ) (k : Walk) : Type 0 where
+  pub few : k .name ≤ w .names + 1
+  pub order : k .best ≤ n
+  pub heap : Standing b (w .offsets .o0) (k .name) (k .start)
+  pub is : k .best ≡ firstOf (shownIn b w wanted 0 (k .name)) b i n
 
--- best is the first triple with a name index below k whose name is wanted
-pub record Leads (b : List ℕ) (w : FileWrapper) (i n : ℕ) (wanted : List ℕ) (k best : ℕ) : Type 0 where
-  pub order : best ≤ n
-  pub is : best ≡ firstOf (below (isShown b w wanted) k) (triplesFrom b i n)
+-- a name index that passed its check is one of the declared
+shown-all : (b : List ℕ) (w : FileWrapper) (wanted : List ℕ) (ts : List Triple) → checkTriples w ts ≡ ok tt
+    → firstIndex (λ t. shownIn b w wanted 0 (w .names + 1) (t .«name_idx»)) ts ≡ firstIndex (isNamed b w wanted) ts
+unfolding shownIn firstIndex checkTriples checkTriple
+shown-all b w wanted [] e = refl
+shown-all b w wanted (t ∷ ts) e =
+    let p = seq-passed (checkTriple w t) (checkTriples w ts) e in
+    let q = check-passed 11 (leb (t .«name_idx») (w .names)) (t .«name_idx») _ (p .1 .0) in
+    let l : t .«name_idx» < w .names + 1 = omega (arith, leb-true (t .«name_idx») (w .names) (q .0)) in
+    simp (le-leb 0 (t .«name_idx») (omega arith), lt-ltb (t .«name_idx») (w .names + 1) l, shown-all b w wanted ts (p .1 .1))
 
--- names 0 to j have been looked at
-pub record Walking (b : List ℕ) (w : FileWrapper) (i n : ℕ) (wanted : List ℕ) (best start j : ℕ) : Type 0 where
-  pub few : j ≤ w .names
-  pub leads : Leads b w i n wanted (j + 1) best
-  pub heap : Standing b (w .offsets .o0) j start
+shown-split : (b : List ℕ) (w : FileWrapper) (wanted : List ℕ) (k e : ℕ) → k ≤ e → (x : ℕ)
+    → shownIn b w wanted 0 e x ≡ (shownIn b w wanted 0 k x || shownIn b w wanted k e x)
+unfolding shownIn
+shown-split b w wanted k e h x =
+    either (ltb x k)
+    (λ t. let l = ltb-true x k t in simp (t, le-leb 0 x (omega arith), lt-ltb x e (omega arith), lt-leb k x l) (or-false (same (shown b w x) wanted)))
+    (λ t. simp (t, le-leb 0 x (omega arith), le-leb k x (ltb-false x k t)))
 
-module _ (b : List ℕ) (w : FileWrapper) (i n : ℕ) (wanted : List ℕ) where
-  leads-none : Leads b w i n wanted 0 n
-  leads-none = record { order = omega arith; is = sym (below-none (isShown b w wanted) (triplesFrom b i n) ∙ length-triples b i n) }
-
-  leads-more : {k best r : ℕ} (p : Piece) → Leads b w i n wanted k best → pieceBytes b p ≡ nameBytes b (w .offsets .o0) k → r ≡ nearest b i best k p wanted
-      → Leads b w i n wanted (k + 1) r
-  unfolding nearest
-  leads-more {k} p l name e =
-      let z = rw name at e ∙ below-more (isShown b w wanted) k b i n (l .order) (l .is) in
-      record { order = omega (arith, z, first-le (λ t. below (isShown b w wanted) (k + 1) (t .«name_idx»)) (triplesFrom b i n), length-triples b i n); is = z }
-
-module _ {b : List ℕ} {w : FileWrapper} {i n : ℕ} (c : PassedTriples b w i n) {wanted : List ℕ} {best : ℕ} where
-  pub walk-start : best ≡ nearest b i n 0 (record { start = 40; end = 40 }) wanted → Walking b w i n wanted best 40 0
-  unfolding nameBytes
-  walk-start e = record {
+module _ {b : List ℕ} {w : FileWrapper} {i n : ℕ} (c : PassedTriples b w i n) {wanted : List ℕ} where
+  pub walk-start : Walking b w i n wanted (record { name = 0; start = 40; best = n })
+  unfolding shownIn
+  walk-start = record {
     few = omega arith;
-    leads = leads-more b w i n wanted (record { start = 40; end = 40 }) (leads-none b w i n wanted) (slice-empty 40 b) e;
+    order = omega arith;
     heap = stand-start (c .opens .heap);
+    is = of-none (shownIn b w wanted 0 0) (λ x. simp (in-none {first = 0} {e = 0} (omega arith) x)) b i n;
   }
 
-  module _ {start j : ℕ} (k : Walking b w i n wanted best start j) where
-    module _ (h : j < w .names) where
-      has-more : j < length (pieces (heapOf b (w .offsets .o0)))
-      has-more = omega (arith, c .opens .names)
+  module _ {k : Walk} (s : Walking b w i n wanted k) where
+    pub walk-names : k .name ≤ w .names → ToNames b w (k .name) (k .name + 1) (k .start)
+    walk-names h = record { opens = c .opens; order = omega arith; size = omega arith; few = omega arith; heap = s .heap }
 
-      pub walk-inside : start ≤ w .offsets .o0
-      walk-inside = stand-inside (k .heap) has-more
+    pub walk-triples : TriplesIn b i (k .best)
+    walk-triples = record { inside = omega (arith, s .order, c .triples); most = c .triples .most }
 
-      pub walk-turn : {end r : ℕ} → FirstPiece b start (w .offsets .o0) end → r ≡ nearest b i best (j + 1) (record { start = start; end = end }) wanted
-          → Walking b w i n wanted r (end + 1) (j + 1)
-      walk-turn {end} f e = record {
-        few = omega arith;
-        leads = leads-more b w i n wanted (record { start = start; end = end }) (k .leads) (stand-name (k .heap) has-more f) e;
-        heap = stand-next (k .heap) has-more f;
-      }
+    pub walk-turn : {r : Walk} → Advances b w i wanted k r → Walking b w i n wanted r
+    walk-turn {r} a =
+        let o = of-or (shownIn b w wanted 0 (k .name)) (shownIn b w wanted (k .name) (r .name)) (shownIn b w wanted 0 (r .name))
+        (shown-split b w wanted (k .name) (r .name) (omega (arith, a .more))) b i n in
+        let z : r .best ≡ firstOf (shownIn b w wanted 0 (r .name)) b i n = a .is ∙ ap (firstOf (shownIn b w wanted (k .name) (r .name)) b i) (s .is) ∙ sym o in
+        record { few = a .few; order = omega (arith, z, of-le (shownIn b w wanted 0 (r .name)) b i n); heap = a .heap; is = z }
 
-    pub walk-last : w .names ≤ j → best ≡ firstIndex (isNamed b w wanted) (triplesFrom b i n)
+    pub walk-last : w .names < k .name → k .best ≡ firstIndex (isNamed b w wanted) (triplesFrom b i n)
+    unfolding firstOf
     walk-last h =
-        let z : j ≡ w .names = omega (arith, k .few) in
-        rw z at (k .leads .is) ∙ below-all (isShown b w wanted) w (triplesFrom b i n) (c .checks)
+        let z : k .name ≡ w .names + 1 = omega (arith, s .few) in
+        rw z at (s .is) ∙ shown-all b w wanted (triplesFrom b i n) (c .checks)
 
 -- ---- the public call
 

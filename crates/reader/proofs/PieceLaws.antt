@@ -11,7 +11,7 @@ use lib.ListN.{length, getD, take, drop, length-drop, take-append-drop}
 use lib.Seq.{slice, slice-cons, slice-empty, append-snoc, take-take, drop-cons, getD-drop, drop-drop}
 use Rattle.text.proofs.BufferLaws.{slice-more}
 use Rattle.text.proofs.TestLaws.{either}
-use Rattle.reader.specs.Names.{onto, pieces, piecesFrom, heapOf, nameBytes, zeros, Counted, Skips, HasPiece, Starts, FirstPiece, HasName, IsName}
+use Rattle.reader.specs.Names.{onto, pieces, piecesFrom, heapOf, nameBytes, zeros, Counted, Skips, HasPiece, Starts, FirstPiece, Standing, HasName, IsName}
 use Rattle.reader.specs.declared.names.Skipped.{Skipped}
 
 length-onto : (x : ℕ) (ps : List (List ℕ)) → 1 ≤ length ps → length (onto x ps) ≡ length ps
@@ -274,31 +274,37 @@ module _ {b : List ℕ} {e index : ℕ} (n : HasName b e index) where
 
 -- ---- walking the heap
 
--- piece j + 1, where there is one, begins at start
-pub record Standing (b : List ℕ) (e j start : ℕ) : Type 0 where
-  pub rest : piecesFrom b e start ≡ drop j (pieces (heapOf b e))
-
 module _ {b : List ℕ} {e : ℕ} where
   pub stand-start : 40 ≤ e → Standing b e 0 40
   unfolding piecesFrom
   stand-start h = record { rest = simp (le-leb 40 e h) }
 
-  module _ {j start : ℕ} (s : Standing b e j start) (h : j < length (pieces (heapOf b e))) where
-    pub stand-inside : start ≤ e
-    unfolding piecesFrom
-    stand-inside =
-        either (leb start e) (λ t. leb-true start e t) (λ t. absurd (omega (arith, ap length (simp t at (s .rest)), length-drop j (pieces (heapOf b e)))))
+  module _ {x start : ℕ} (s : Standing b e x start) where
+    -- the empty name has no bytes
+    pub stand-empty : x ≡ 0 → Standing b e (x + 1) start
+    stand-empty z =
+        let k : x - 1 ≡ x + 1 - 1 = omega arith in
+        record { rest = rw k at (s .rest) }
 
-    module _ {i : ℕ} (f : FirstPiece b start e i) where
-      here : slice start i b ∷ piecesFrom b e (i + 1) ≡ drop j (pieces (heapOf b e))
+    module _ (h : x ≤ length (pieces (heapOf b e))) where
+      pub stand-inside : start ≤ e
       unfolding piecesFrom
-      here = sym (f .is) ∙ simp (le-leb start e stand-inside) at (s .rest)
+      stand-inside =
+          either (leb start e) (λ t. leb-true start e t)
+          (λ t. absurd (omega (arith, ap length (simp t at (s .rest)), length-drop (x - 1) (pieces (heapOf b e)), pieces-some (heapOf b e))))
 
-      pub stand-name : slice start i b ≡ nameBytes b e (j + 1)
-      unfolding nameBytes
-      stand-name =
-          let z : j + 1 - 1 ≡ j + 0 = omega arith in
-          simp (ne-eqb (j + 1) 0 (λ q. omega arith), z) (ap (λ (ps : List (List ℕ)). getD ps 0 []) here ∙ getD-drop j (pieces (heapOf b e)) 0 [])
+      module _ (some : x ≡ 0 → ⊥) {i : ℕ} (f : FirstPiece b start e i) where
+        here : slice start i b ∷ piecesFrom b e (i + 1) ≡ drop (x - 1) (pieces (heapOf b e))
+        unfolding piecesFrom
+        here = sym (f .is) ∙ simp (le-leb start e stand-inside) at (s .rest)
 
-      pub stand-next : Standing b e (j + 1) (i + 1)
-      stand-next = record { rest = ap (drop 1) here ∙ drop-drop 1 j (pieces (heapOf b e)) }
+        pub stand-name : slice start i b ≡ nameBytes b e x
+        unfolding nameBytes
+        stand-name =
+            let z : x - 1 ≡ x - 1 + 0 = omega arith in
+            simp (ne-eqb x 0 some) (rw z (ap (λ (ps : List (List ℕ)). getD ps 0 []) here ∙ getD-drop (x - 1) (pieces (heapOf b e)) 0 []))
+
+        pub stand-next : Standing b e (x + 1) (i + 1)
+        stand-next =
+            let z : x - 1 + 1 ≡ x + 1 - 1 = omega arith in
+            record { rest = rw z at (ap (drop 1) here ∙ drop-drop 1 (x - 1) (pieces (heapOf b e))) }

@@ -5,7 +5,7 @@ use mathlib.Core.Path.{_≡_}
 use mathlib.Core.Bool.{cond}
 use mathlib.Core.List.{List, [], _∷_}
 use lib.Dec.{leb, eqb}
-use lib.ListN.{length, getD}
+use lib.ListN.{length, getD, drop}
 use lib.Seq.{slice}
 use Rattle.text.specs.Utf8.{lossy}
 use Rattle.reader.specs.declared.names.Piece.{Piece}
@@ -20,11 +20,6 @@ onto x (p ∷ ps) = (x ∷ p) ∷ ps
 unfoldable pub pieces : List ℕ → List (List ℕ)
 pieces [] = [] ∷ []
 pieces (x ∷ xs) = cond (eqb x 0) ([] ∷ pieces xs) (onto x (pieces xs))
-
--- how many bytes are zero
-unfoldable pub zeros : List ℕ → ℕ
-zeros [] = 0
-zeros (x ∷ xs) = cond (eqb x 0) 1 0 + zeros xs
 
 -- the pieces from byte i up to end, none past it
 unfoldable pub piecesFrom : List ℕ → ℕ → ℕ → List (List ℕ)
@@ -43,6 +38,11 @@ abbrev pub shownName : List ℕ → ℕ → ℕ → List ℕ
 shownName b end i = lossy (nameBytes b end i)
 
 -- ---- what the stages that find a name promise each other
+
+-- how many bytes are zero
+unfoldable pub zeros : List ℕ → ℕ
+zeros [] = 0
+zeros (x ∷ xs) = cond (eqb x 0) 1 0 + zeros xs
 
 -- n zero bytes from start up to i
 pub record Counted (b : List ℕ) (start i n : ℕ) : Type 0 where
@@ -80,6 +80,10 @@ pub record HasName (b : List ℕ) (end index : ℕ) : Type 0 where
   pub heap : 40 ≤ end
   pub inside : end ≤ length b
   pub most : index ≤ length (pieces (heapOf b end))
+
+-- piece x, where there is one, begins at start; for the empty name, 0, piece 1
+pub record Standing (b : List ℕ) (end x start : ℕ) : Type 0 where
+  pub rest : piecesFrom b end start ≡ drop (x - 1) (pieces (heapOf b end))
 
 -- the bytes of a piece
 abbrev pub pieceBytes : List ℕ → Piece → List ℕ

@@ -1,6 +1,6 @@
 -- `reader::names::count_zeros` meets its contract.
 -- Assumes nothing.
-use Prim.Native.Nat.{_+_, _-_, _≤_}
+use Prim.Native.Nat.{_-_, _≤_}
 use Rattle.reader.specs.Names.{Counted}
 use Rattle.reader.proofs.PieceLaws.{count-none, count-more, count-end}
 use borrow.Author.Needs.{needs}
