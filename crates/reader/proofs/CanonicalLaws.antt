@@ -16,7 +16,7 @@ use Rattle.writer.specs.Array.{Array, noArray, Accepted, payload, arrayOf, chec
 use Rattle.writer.specs.FileWrapper.{fileWrapper}
 use Rattle.writer.specs.Spans.{offsetAt, endAt, checkStrings}
 use Rattle.writer.proofs.LayoutLaws.{length-payload-spans, payload-at, span-offset, span-end, payloads-within}
-use Rattle.reader.specs.Cells.{isCell, checkDirectory, cellAt, cellOf}
+use Rattle.reader.specs.Cells.{liesIn, isCell, checkDirectory, cellAt, cellOf}
 use Rattle.reader.specs.Decode.{anyName, stringName, idStrings, idsStrings, metadataStrings, stringClass, propertyStrings, triplesStrings, objectStrings}
 use Rattle.reader.specs.Objects.{position}
 use Rattle.reader.specs.Opaque.{opaqueMetadata}
@@ -59,6 +59,7 @@ module _ (xs : List Array) (few : length xs ≤ 349522) where
   cells = omega (arith, length-payload-spans 0 xs)
 
   each-cell : (j : ℕ) → j < n → isCell directory (length words) j ≡ true
+  unfolding liesIn
   each-cell zero h =
       let e = span-end 0 xs 0 h in
       let k = payloads-within xs 1 in

@@ -16,8 +16,8 @@ use Rattle.text.specs.declared.error.MatError.the-variants.{CellNotFound, Unexp
 use Rattle.text.proofs.ResultLaws.{Checks, checks-start, checks-turn, checks-stop, checks-last, check-passed, checkEach-passed, reply-is}
 use Rattle.text.proofs.TestLaws.{and-is, either}
 use Rattle.writer.specs.Spans.{offsetAt, lengthAt, endAt}
-use Rattle.reader.specs.Cells.{endBefore, isCell, cellCount, checkDirectory, cellAt, cellOf}
-use Rattle.reader.specs.CellStages.{liesIn, IsDirectory, cellReplyOf, ReadsCell}
+use Rattle.reader.specs.Cells.{endBefore, liesIn, isCell, cellCount, checkDirectory, cellAt, cellOf}
+use Rattle.reader.specs.CellStages.{IsDirectory, cellReplyOf, ReadsCell}
 use Rattle.reader.specs.declared.cells.CellReply.{CellReply}
 use Rattle.reader.specs.declared.cells.CellReply.the-variants as reply
 
@@ -51,6 +51,11 @@ pub ruleset follows-outcomes = (follows-before, follows-past, follows-is)
 
 -- ---- the pairs of a directory
 
+-- a cell ends within the words
+pub cell-within : (directory : List ℕ) (words j : ℕ) → isCell directory words j ≡ true → endAt directory j ≤ words
+unfolding liesIn
+cell-within directory words j e = leb-true (endAt directory j) words (and-is (leb (endBefore directory j) (offsetAt directory j)) (leb (endAt directory j) words) e .1)
+
 -- 13 holds of the pairs before pair i, and this is where the last of them ends
 pub record CellsBefore (directory : List ℕ) (words n end i : ℕ) : Type 0 where
   pub is : end ≡ endBefore directory i
@@ -63,7 +68,6 @@ module _ (directory : List ℕ) (words n : ℕ) where
   module _ {end i : ℕ} (m : CellsBefore directory words n end i) where
     module _ {offset len : ℕ} {r : Bool} (h : i < n) (e : r ≡ liesIn end offset len words) (o : offset ≡ offsetAt directory i) (l : len ≡ lengthAt directory i) where
       is-cell : isCell directory words i ≡ r
-      unfolding liesIn
       is-cell = rw (e, m .is, o, l)
 
       pub cells-turn : not r ≡ false → CellsBefore directory words n (offset + len) (i + 1)
@@ -119,9 +123,7 @@ directory-passed directory kinds words d =
     let many = check-passed 13 (eqb (length kinds) (cellCount directory)) (length directory) _ (few .1) in
     record {
       kinds-match = eqb-true (length kinds) (cellCount directory) (many .0);
-      inside = λ j h. leb-true (endAt directory j) words
-          (and-is (leb (endBefore directory j) (offsetAt directory j)) (leb (endAt directory j) words)
-          (checkEach-passed 13 (isCell directory words) 0 (cellCount directory) (many .1) j (omega arith) h) .1);
+      inside = λ j h. cell-within directory words j (checkEach-passed 13 (isCell directory words) 0 (cellCount directory) (many .1) j (omega arith) h);
     }
 
 -- ---- the outcomes of `cell_at` and `cell_of`

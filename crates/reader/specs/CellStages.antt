@@ -1,20 +1,14 @@
 -- What the reply about a cell says, and what the stages that read cells promise each other.
 -- Assumes nothing.
-use Prim.Native.Nat.{ℕ, _+_, _-_, _≤_}
+use Prim.Native.Nat.{ℕ, _-_, _≤_}
 use mathlib.Core.Path.{_≡_}
-use mathlib.Core.Bool.{Bool, _&&_}
 use mathlib.Core.List.{List}
-use lib.Dec.{leb}
 use lib.ListN.{length, take, drop}
 use Rattle.text.specs.Errors.{failureOf}
 use Rattle.text.specs.Result.{Result, ok, error}
 use Rattle.reader.specs.Cells.{checkDirectory}
 use Rattle.reader.specs.declared.cells.CellReply.{CellReply}
 use Rattle.reader.specs.declared.cells.CellReply.the-variants as reply
-
--- len words from offset on begin at or after end, and lie in so many words
-unfoldable pub liesIn : ℕ → ℕ → ℕ → ℕ → Bool
-liesIn end offset len words = leb end offset && leb (offset + len) words
 
 -- 13 holds of a directory of the cells of so many words
 pub record IsDirectory (directory kinds : List ℕ) (words : ℕ) : Type 0 where

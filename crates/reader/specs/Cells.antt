@@ -1,21 +1,25 @@
 -- The cell store: the directory of its cells, and a cell by its entry.
 -- Assumes nothing.
-use Prim.Native.Nat.{ℕ, zero, suc, _-_, _/_, _%_}
+use Prim.Native.Nat.{ℕ, zero, suc, _+_, _-_, _/_, _%_}
 use mathlib.Core.Bool.{Bool, _&&_}
 use mathlib.Core.List.{List}
 use lib.Dec.{leb, ltb, eqb}
 use lib.ListN.{length, getD}
 use Rattle.text.specs.Result.{Result, ok, check, checkEach, _>>_}
-use Rattle.writer.specs.Spans.{offsetAt, endAt, stringAt}
+use Rattle.writer.specs.Spans.{offsetAt, lengthAt, endAt, stringAt}
 
 -- the end of the span before span i
 abbrev pub endBefore : List ℕ → ℕ → ℕ
 endBefore spans zero = 0
 endBefore spans (suc i) = endAt spans i
 
--- 13 for pair i: "sorted by offset, each at or after the end of the one before", "ending within the buffer" of so many words
+-- len words from offset on: "each at or after the end of the one before", "ending within the buffer" of so many words
+unfoldable pub liesIn : ℕ → ℕ → ℕ → ℕ → Bool
+liesIn end offset len words = leb end offset && leb (offset + len) words
+
+-- 13 for pair i
 abbrev pub isCell : List ℕ → ℕ → ℕ → Bool
-isCell directory words i = leb (endBefore directory i) (offsetAt directory i) && leb (endAt directory i) words
+isCell directory words i = liesIn (endBefore directory i) (offsetAt directory i) (lengthAt directory i) words
 
 -- the cells that a directory names, "one pair for each"
 abbrev pub cellCount : List ℕ → ℕ

@@ -6,8 +6,8 @@ ghost use mathlib.Core.Path.{_≡_};
 ghost use Prim.Native.Nat.{_*_, _≤_};
 ghost use lib.ListN.{length};
 ghost use Rattle.text.specs.Result.{checkEach};
-ghost use Rattle.reader.specs.Cells.{isCell, checkDirectory, cellAt, cellOf};
-ghost use Rattle.reader.specs.CellStages.{liesIn, IsDirectory, ReadsCell};
+ghost use Rattle.reader.specs.Cells.{liesIn, isCell, checkDirectory, cellAt, cellOf};
+ghost use Rattle.reader.specs.CellStages.{IsDirectory, ReadsCell};
 ghost use Rattle.reader.specs.Replies.{checkedOf};
 
 // The most values of a directory.

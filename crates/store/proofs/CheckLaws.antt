@@ -19,7 +19,8 @@ use Rattle.text.proofs.ResultLaws.{reply-is, check-is, check-passed, checkEach-
 use Rattle.text.proofs.TestLaws.{and-is, not-both}
 use Rattle.writer.specs.FileWrapper.{isFileWrapper}
 use Rattle.writer.specs.Spans.{offsetAt, lengthAt, endAt, stringAt}
-use Rattle.reader.specs.Cells.{endBefore, isCell, checkDirectory}
+use Rattle.reader.specs.Cells.{isCell, checkDirectory}
+use Rattle.reader.proofs.CellLaws.{cell-within}
 use Rattle.reader.specs.Replies.{checkedOf}
 use Rattle.reader.specs.Saveobj.{isCanonicalPayload}
 use Rattle.reader.specs.declared.file_wrapper.Checked.{Checked}
@@ -199,8 +200,7 @@ cut-checked {o} {ds} {ks} {words} i e g =
         pairs = i .pairs;
         inside =
             λ j h.
-            let p = checkEach-passed 13 (isCell ds words) 0 (n / 2) (kinds .1) j (omega arith) (omega arith) in
-            leb-true (endAt ds j) words (and-is (leb (endBefore ds j) (offsetAt ds j)) (leb (endAt ds j) words) p .1);
+            cell-within ds words j (checkEach-passed 13 (isCell ds words) 0 (n / 2) (kinds .1) j (omega arith) (omega arith));
       };
     }
 

@@ -3,7 +3,7 @@ pub mod BufferLaws
 pub mod ByteLaws
 pub mod CountLaws
 pub mod DecodeLaws
-pub mod ExtentLaws
+pub mod SizeLaws
 pub mod LeadLaws
 pub mod LossyLaws
 pub mod MaximalSubpart

@@ -11,8 +11,6 @@ use lib.Dec.{leb, ltb}
 use lib.ListN.{length, getD, length-append}
 use Rattle.text.specs.declared.utf8.Step.{Step}
 use Rattle.text.specs.declared.utf8.Step.the-variants.{Scalar, IllFormed, End}
-use Rattle.text.specs.declared.utf8.Extent.{Extent}
-use Rattle.text.specs.declared.utf8.Extent.the-variants as extent
 use Rattle.text.specs.declared.utf8.LossyLength.{LossyLength}
 use Rattle.text.specs.declared.utf8.LossyLength.the-variants as measure
 use Rattle.text.specs.declared.utf8.UnitCount.{UnitCount}
@@ -22,7 +20,6 @@ use Rattle.text.specs.declared.utf8.LossyReply.the-variants as lossyRepl
 use Rattle.text.specs.Buffer.{put, Places, Filled, fill, Fills}
 use Rattle.text.specs.Replies.{CountsUnits, lossyLength, WritesLossy}
 use Rattle.text.specs.Result.{needPlace}
-use Rattle.text.specs.Stages.{extentStep, valueHere}
 use Rattle.text.specs.Unicode.{isScalar, utf8, utf8s, encoded}
 use Rattle.text.specs.Utf8.{Part, sequence, illFormed, stepAt, partsFrom, scalarsOf, firstIllFormed, repaired, replacedIn, lossy, lossySequences}
 use Rattle.text.proofs.BufferLaws.{put-front, places-same, fill-fits}
@@ -100,18 +97,13 @@ module _ (s : List ℕ) where
     pub measure-ascii : i < length s → getD s i 0 < 128 → Measuring s broken replaced (i + 1)
     measure-ascii h b = measure-scalar (sym (ascii s i h b))
 
-    module _ {x : Extent} (e : stepAt s i ≡ extentStep x (valueHere s i)) where
-      pub measure-whole : {next : ℕ} → x ≡ extent.Whole next → Measuring s broken replaced next
-      unfolding extentStep
-      measure-whole g = measure-scalar (rw g at e)
+    module _ {x : Step} (e : x ≡ stepAt s i) where
+      pub measure-whole : {v next : ℕ} → x ≡ Scalar v next → Measuring s broken replaced next
+      measure-whole g = measure-scalar (sym e ∙ g)
 
-      breaks : {next : ℕ} → x ≡ extent.IllFormed next → stepAt s i ≡ IllFormed next
-      unfolding extentStep
-      breaks g = rw g at e
-
-      pub measure-ill-formed : {next : ℕ} → x ≡ extent.IllFormed next → Measuring s (broken + (next - i)) (replaced + 1) next
+      pub measure-ill-formed : {next : ℕ} → x ≡ IllFormed next → Measuring s (broken + (next - i)) (replaced + 1) next
       measure-ill-formed g =
-          let x = writes-replacement s i refl (breaks g) in
+          let x = writes-replacement s i e g in
           let a = x .advance in
           record {
             bound = a .inside;
@@ -138,6 +130,14 @@ module _ (s : List ℕ) where
       measure-last f l =
           let r : replaced ≡ replacedIn (partsFrom s 0) = omega (arith, rw no-parts at (m .count)) in
           simp (lt-ltb (length (lossy s)) (2 ^ 64) (omega (arith, bytes-are, m .bound))) (ap₂ (λ (b n : ℕ). measure.Length b n) bytes-are r)
+
+    -- the same where a step finds nothing left
+    module _ {x : Step} (e : x ≡ stepAt s i) (g : x ≡ End) where
+      pub end-over : (18446744073709551615 - (i - broken)) / 3 < replaced → measure.TooLong ≡ lossyLength s
+      end-over l = measure-over (step-end s i (sym e ∙ g)) l
+
+      pub end-last : length s < 2 ^ 64 → replaced ≤ (18446744073709551615 - (i - broken)) / 3 → measure.Length ((i - broken) + 3 * replaced) replaced ≡ lossyLength s
+      end-last f l = measure-last (step-end s i (sym e ∙ g)) f l
 
   -- all before the first ill-formed part is kept
   pub measure-from : {at : ℕ} → firstIllFormed (partsFrom s 0) ≡ some at → Measuring s 0 0 at

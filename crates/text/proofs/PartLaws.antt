@@ -8,11 +8,8 @@ use native.Mathlib.Omega.{arith}
 use borrow.Author.Tests.{le-ltb, ltb-true, ltb-false, leb-true}
 use lib.Dec.{ltb, leb, eqb}
 use lib.ListN.{length, getD}
-use Rattle.text.specs.declared.utf8.Extent.{Extent}
-use Rattle.text.specs.declared.utf8.Extent.the-variants as extent
 use Rattle.text.specs.declared.utf8.Step.{Step}
 use Rattle.text.specs.declared.utf8.Step.the-variants.{Scalar, IllFormed, End}
-use Rattle.text.specs.Stages.{extentStep, valueHere}
 use Rattle.text.specs.Utf8.{sequenceLength, matched, wholeAt, nextAt, stepAt, valueAt, Part, sequence, illFormed, before, partsCount, partsFrom}
 use Rattle.text.proofs.StepLaws.{has-at}
 
@@ -166,38 +163,19 @@ module _ (s : List ℕ) (i : ℕ) {x : Step} (e : x ≡ stepAt s i) where
   unfolding left
   scalar-less g = omega (arith, scalar-on g)
 
+  pub ill-formed-after : {next : ℕ} → x ≡ IllFormed next → i ≤ next
+  ill-formed-after g =
+      let a = step-breaks s i (sym e ∙ g) .advance in
+      omega (arith, a)
+
   pub ill-formed-less : {next : ℕ} → x ≡ IllFormed next → left s next < left s i
   unfolding left
   ill-formed-less {next} g =
       let a = step-breaks s i (sym e ∙ g) .advance in
       omega (arith, a)
 
-pub ruleset less = (scalar-less, ill-formed-less)
+pub byte-less : (s : List ℕ) (i : ℕ) → i < length s → left s (i + 1) < left s i
+unfolding left
+byte-less s i h = omega arith
 
--- the same by extents and single bytes
-module _ (s : List ℕ) (i : ℕ) where
-  pub byte-less : i < length s → left s (i + 1) < left s i
-  unfolding left
-  byte-less h = omega arith
-
-  module _ {x : Extent} (e : stepAt s i ≡ extentStep x (valueHere s i)) where
-    whole-on : {next : ℕ} → x ≡ extent.Whole next → Advances s i next
-    unfolding extentStep
-    whole-on g = step-reads s i (rw g at e) .advance
-
-    broken-on : {next : ℕ} → x ≡ extent.IllFormed next → Advances s i next
-    unfolding extentStep
-    broken-on g = step-breaks s i (rw g at e) .advance
-
-    pub whole-less : {next : ℕ} → x ≡ extent.Whole next → left s next < left s i
-    unfolding left
-    whole-less g = omega (arith, whole-on g)
-
-    pub broken-after : {next : ℕ} → x ≡ extent.IllFormed next → i ≤ next
-    broken-after g = omega (arith, broken-on g)
-
-    pub broken-less : {next : ℕ} → x ≡ extent.IllFormed next → left s next < left s i
-    unfolding left
-    broken-less g = omega (arith, broken-on g)
-
-pub ruleset extent-less = (byte-less, whole-less, broken-less)
+pub ruleset less = (scalar-less, ill-formed-less, byte-less)

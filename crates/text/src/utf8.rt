@@ -5,7 +5,7 @@ ghost use Prim.Native.Nat.{_+_, _≤_, _<_};
 ghost use lib.ListN.{length, getD};
 ghost use Rattle.text.specs.Buffer.{same, put, Places, Fills};
 ghost use Rattle.text.specs.Replies.{unitsFrom, validityPlace, CountsUnits, lossyLength, WritesLossy};
-ghost use Rattle.text.specs.Stages.{stepHas, extentStep, valueHere, wholeLength};
+ghost use Rattle.text.specs.Stages.{stepHas, wholeLength};
 ghost use Rattle.text.specs.Unicode.{within, Below, isScalar, utf8, utf16, encoded};
 ghost use Rattle.text.specs.Utf8.{sequenceLength, secondRange, hasIn, stepAt, partsFrom, firstIllFormed, lossy, lossySequences};
 
@@ -137,43 +137,6 @@ fn sequence_at(s: &[u8], at: usize) -> Step
         value: (lead % 8) as u32 * 262144 + b * 4096 + c * 64 + d,
         next: at + 4,
     }
-}
-
-// What decoding finds, without the scalar value: a sequence or a maximal ill-formed part, by the position past it.
-enum Extent {
-    Whole(usize),
-    IllFormed(usize),
-}
-
-// The extent of what stands at a byte that is not ASCII. A sequence of two bytes, the commonest, is answered first.
-fn extent_at(s: &[u8], at: usize) -> Extent
-    requires { ⌜ (at < length (now s)) × (128 ≤ getD (now s) at 0) ⌝ }
-    ensures { λ r. ⌜ stepAt (now (s .entry)) at ≡ extentStep r (valueHere (now (s .entry)) at) ⌝ }
-{
-    let lead = s[at];
-    if lead < 0xC2 || 0xF4 < lead {
-        return Extent::IllFormed(at + 1);
-    }
-    if lead < 0xE0 {
-        if !has(s, at + 1, 0x80, 0xBF) {
-            return Extent::IllFormed(at + 1);
-        }
-        return Extent::Whole(at + 2);
-    }
-    let range = second_range(lead);
-    if !has(s, at + 1, range.low, range.high) {
-        return Extent::IllFormed(at + 1);
-    }
-    if !has(s, at + 2, 0x80, 0xBF) {
-        return Extent::IllFormed(at + 2);
-    }
-    if lead < 0xF0 {
-        return Extent::Whole(at + 3);
-    }
-    if !has(s, at + 3, 0x80, 0xBF) {
-        return Extent::IllFormed(at + 3);
-    }
-    Extent::Whole(at + 4)
 }
 
 // Whether a byte is from low to high.
@@ -437,14 +400,17 @@ fn repaired_length(s: &[u8], at: usize) -> LossyLength
             i += 1;
             continue;
         }
-        match extent_at(s, i) {
-            Extent::Whole(next) => {
+        match step_at(s, i) {
+            Step::Scalar { value: _, next } => {
                 i = next;
             }
-            Extent::IllFormed(next) => {
+            Step::IllFormed { next } => {
                 broken += next - i;
                 replaced += 1;
                 i = next;
+            }
+            Step::End => {
+                break;
             }
         }
     }

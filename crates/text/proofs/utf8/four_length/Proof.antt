@@ -1,7 +1,7 @@
 -- `text::utf8::four_length` meets its contract: a law for each return.
 -- Assumes nothing.
 use borrow.Author.Needs.{needs}
-use Rattle.text.proofs.ExtentLaws.{sizes-of-four}
+use Rattle.text.proofs.SizeLaws.{sizes-of-four}
 use Rattle.text.proofs.utf8.four_length.Statement.{statement}
 use Rattle.text.proofs.utf8.four_length.Tie as tie
 
