@@ -106,6 +106,8 @@ fn change(room: Room<'_>, choose: impl Fn(usize) -> Option<usize>) -> bool {
         room.words[i] ^= 1;
     } else if let Some(i) = choose(room.rows.len()) {
         room.rows[i].value ^= 1;
+    } else if let Some(i) = choose(room.objects.len()) {
+        room.objects[i].property_count ^= 1;
     } else {
         return false;
     }
@@ -120,6 +122,7 @@ const REFUSED: Lengths = Lengths {
     text: 40,
     words: 10,
     rows: 4,
+    objects: 4,
 };
 
 /// Compares case after case, over the same buffers.
@@ -220,6 +223,7 @@ impl Judge {
             text: need.text + SPARE,
             words: need.words + SPARE,
             rows: need.rows + SPARE,
+            objects: need.objects + SPARE,
         };
         let accepts = |answer| match answer {
             Ok(given) if given == values => Ok(()),
@@ -286,6 +290,7 @@ const NOTHING: Lengths = Lengths {
     text: 0,
     words: 0,
     rows: 0,
+    objects: 0,
 };
 
 /// Each buffer that something is written to, one short, with what it needs.
@@ -294,7 +299,8 @@ fn one_short(need: Lengths) -> impl Iterator<Item = (Lengths, usize)> {
     let text = less(need.text).map(|text| (Lengths { text, ..need }, need.text));
     let words = less(need.words).map(|words| (Lengths { words, ..need }, need.words));
     let rows = less(need.rows).map(|rows| (Lengths { rows, ..need }, need.rows));
-    [text, words, rows].into_iter().flatten()
+    let objects = less(need.objects).map(|objects| (Lengths { objects, ..need }, need.objects));
+    [text, words, rows, objects].into_iter().flatten()
 }
 
 /// How a refusal of the Rust agrees with one of the library.

@@ -3,7 +3,7 @@
 use std::fmt::LowerHex;
 use std::panic::{AssertUnwindSafe, catch_unwind};
 
-use mcos::{MatError, Property};
+use mcos::{MatError, ObjectRow, Property};
 use oracle::{Answer, Cell, Refusal};
 
 use crate::generate::stores::Store;
@@ -244,6 +244,7 @@ pub fn payload(judge: &mut Judge, payload: &[u64]) {
 pub fn blob(judge: &mut Judge, blob: &[u8]) {
     let opened = asked(|| oracle::open(blob));
     open(judge, blob, &opened);
+    listing(judge, blob, &opened);
     match &opened {
         Ok(store) => {
             let [names, classes, records, ..] = store.counts();
@@ -308,6 +309,72 @@ fn open(judge: &mut Judge, blob: &[u8], opened: &Answer<oracle::Store>) {
     query(judge, Kind::Open, blob, 0, rust, &mut |_| {
         library::parse(blob)
     });
+}
+
+/// `list_objects`: the Rust opens the blob and has no listing; the rows are
+/// read off it here, by 01's rule.
+fn listing(judge: &mut Judge, blob: &[u8], opened: &Answer<oracle::Store>) {
+    let rows = opened.as_ref().map(|store| object_rows(blob, store));
+    let rust = match &rows {
+        Ok(Ok(objects)) => {
+            let written = Written {
+                objects,
+                ..Written::default()
+            };
+            Rust::Accepts(values([objects.len() as u64]), written)
+        }
+        Ok(Err(error)) => Rust::Lacks(*error),
+        Err(refusal) => Rust::Refuses(refusal),
+    };
+    query(judge, Kind::Listing, blob, 0, rust, &mut |room| {
+        library::list_objects(blob, room)
+    });
+}
+
+/// The number at a byte.
+fn u32_at(blob: &[u8], at: usize) -> u32 {
+    u32::from_le_bytes(blob[at..at + 4].try_into().expect("four bytes"))
+}
+
+/// The property counts of the blocks of a region.
+fn block_counts(blob: &[u8], start: usize, blocks: usize) -> Vec<u32> {
+    let mut at = start;
+    let next = |_| {
+        let count = u32_at(blob, at);
+        at = (at + 4 + 12 * count as usize).next_multiple_of(8);
+        count
+    };
+    (0..blocks).map(next).collect()
+}
+
+/// A row for each object of an opened blob, or check 10.
+fn object_rows(blob: &[u8], store: &oracle::Store) -> Result<Vec<ObjectRow>, MatError> {
+    let offset = |k: usize| u32_at(blob, 8 + 4 * k) as usize;
+    let [_, _, records, saved, normal] = store.counts();
+    let counts = [
+        block_counts(blob, offset(1), saved),
+        block_counts(blob, offset(3), normal),
+    ];
+    let object = |id: usize| {
+        let field = |at: usize| u32_at(blob, offset(2) + 24 * id + at);
+        let (region, block_id) = match field(12) {
+            0 => (1, field(16)),
+            saved => (0, saved),
+        };
+        let property_count = match block_id {
+            0 => 0,
+            id => *counts[region as usize]
+                .get(id as usize)
+                .ok_or(MatError::PropertyBlockIdOutOfRange(id.into()))?,
+        };
+        Ok(ObjectRow {
+            class_id: field(0),
+            region,
+            block_id,
+            property_count,
+        })
+    };
+    (1..records).map(object).collect()
 }
 
 fn name(judge: &mut Judge, blob: &[u8], index: u32, answer: &Answer<String>) {

@@ -1,6 +1,6 @@
 //! Buffers that are lent to a call, and seen to keep what it did not write.
 
-use mcos::Property;
+use mcos::{ObjectRow, Property};
 
 /// Elements looked at past the end of what was lent.
 const GUARD: usize = 8;
@@ -50,12 +50,13 @@ impl<T: Copy + PartialEq> Buffer<T> {
     }
 }
 
-/// The lengths of the three buffers.
+/// The lengths of the four buffers.
 #[derive(Debug, Clone, Copy, PartialEq, Eq)]
 pub struct Lengths {
     pub text: usize,
     pub words: usize,
     pub rows: usize,
+    pub objects: usize,
 }
 
 /// What a call is lent. Text and blobs are bytes; payloads and spans are words.
@@ -63,6 +64,7 @@ pub struct Room<'a> {
     pub text: &'a mut [u8],
     pub words: &'a mut [u64],
     pub rows: &'a mut [Property],
+    pub objects: &'a mut [ObjectRow],
 }
 
 /// What stands at the front of the buffers after an accepted call.
@@ -71,6 +73,7 @@ pub struct Written<'a> {
     pub text: &'a [u8],
     pub words: &'a [u64],
     pub rows: &'a [Property],
+    pub objects: &'a [ObjectRow],
 }
 
 impl Written<'_> {
@@ -80,6 +83,7 @@ impl Written<'_> {
             text: self.text.len(),
             words: self.words.len(),
             rows: self.rows.len(),
+            objects: self.objects.len(),
         }
     }
 }
@@ -89,6 +93,7 @@ pub struct Lent {
     text: Buffer<u8>,
     words: Buffer<u64>,
     rows: Buffer<Property>,
+    objects: Buffer<ObjectRow>,
 }
 
 impl Default for Lent {
@@ -98,10 +103,17 @@ impl Default for Lent {
             field_type: (x >> 20) as u32,
             value: (x >> 32) as u32,
         };
+        let object = |x: u64| ObjectRow {
+            class_id: x as u32,
+            region: (x >> 16) as u32,
+            block_id: (x >> 24) as u32,
+            property_count: (x >> 32) as u32,
+        };
         Self {
             text: Buffer::new(|x| (x >> 56) as u8),
             words: Buffer::new(|x| x),
             rows: Buffer::new(row),
+            objects: Buffer::new(object),
         }
     }
 }
@@ -113,6 +125,7 @@ impl Lent {
             text: self.text.lend(lengths.text),
             words: self.words.lend(lengths.words),
             rows: self.rows.lend(lengths.rows),
+            objects: self.objects.lend(lengths.objects),
         }
     }
 
@@ -121,6 +134,7 @@ impl Lent {
         let text = self.text.holds(written.text, lengths.text);
         let words = self.words.holds(written.words, lengths.words);
         let rows = self.rows.holds(written.rows, lengths.rows);
-        text && words && rows
+        let objects = self.objects.holds(written.objects, lengths.objects);
+        text && words && rows && objects
     }
 }

@@ -245,6 +245,17 @@ pub fn properties(blob: &[u8], id: u32, room: Room<'_>) -> Reply {
     }
 }
 
+pub fn list_objects(blob: &[u8], room: Room<'_>) -> Reply {
+    let rows = room.objects;
+    Reply {
+        answer: mcos::list_objects(blob, rows).map(|n| values([n as u64])),
+        cells: Cells::of(|cell, place| unsafe {
+            let (blob, len) = (blob.as_ptr(), blob.len());
+            ffi::mcos_list_objects(blob, len, rows.as_mut_ptr(), rows.len(), cell, place)
+        }),
+    }
+}
+
 /// Whether it was found, and the position.
 pub fn find_property(blob: &[u8], id: u32, wanted: &[u8]) -> Reply {
     let found = |position: Option<usize>| match position {

@@ -178,6 +178,7 @@ pub fn lacking(expected: MatError, error: MatError) -> Option<Rule> {
     let why = match expected {
         MatError::InvalidDirectory(_) => "the Rust has cells and no directory",
         MatError::InvalidText(_) => "the Rust takes strings",
+        MatError::PropertyBlockIdOutOfRange(_) => "the Rust has no object listing",
         _ => return None,
     };
     let number = error.number();
