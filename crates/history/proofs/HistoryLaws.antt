@@ -208,13 +208,12 @@ module _ (s₀ : Store) (ops dims text spans replies₀ : List ℕ) (n o b u : �
   ran-told = ends (numbers (execute s₀ all .replies)) replies₀ replies (2 * i) (rw none at (v .told))
 
   pub running-last : Ends s₀ (editsIn ops dims text spans (length replies₀)) replies₀ (record { objects = o; «blob_bytes» = b; words = u; edits = n }) blob directory kinds words replies
-  running-last =
-      let claims = edits-agree s₀ (empty .is) all in
-      record {
-        claim = rw (← v .count) (rw (ran-last, claims .answers) at claims);
-        told = rw (← v .count, ← claims .answers) ran-told;
-        count = rw (← v .count) (sym (length-edits (editAt ops dims text spans) 0 n));
-      }
+  running-last = record {
+    left = rw (← v .count) (sym ran-last);
+    told = rw (← v .count) ran-told;
+    count = rw (← v .count) (sym (length-edits (editAt ops dims text spans) 0 n));
+    claim = edits-agree s₀ (empty .is) (editsIn ops dims text spans (length replies₀));
+  }
 
 pub ruleset running = (running-start, running-turn, running-last)
 

@@ -7,9 +7,9 @@ use lib.ListN.{length, getD, take, drop}
 use Rattle.text.specs.Errors.{failureOf}
 use Rattle.text.specs.Result.{Result, ok, error, checkOutput}
 use Rattle.writer.specs.FileWrapper.{fileWrapper}
-use Rattle.store.specs.Store.{Store, lengthsOf, storeOf}
+use Rattle.store.specs.Store.{Store, storeOf}
 use Rattle.store.specs.Edits.{over}
-use Rattle.store.specs.Model.{Edit, append, replace, model, Edited}
+use Rattle.store.specs.Model.{Edit, append, replace, execute, Edited}
 use Rattle.history.specs.declared.Ran.{Ran}
 use Rattle.history.specs.declared.RunReply.{RunReply}
 use Rattle.history.specs.declared.RunReply.the-variants as run
@@ -49,6 +49,7 @@ abbrev pub numbersOf : Result (Unit {0}) → List ℕ
 numbersOf (ok t) = 0 ∷ 0 ∷ []
 numbersOf (error e) = e .number ∷ e .place ∷ []
 
+-- two numbers for each reply, one after another
 abbrev pub numbers : List (Result (Unit {0})) → List ℕ
 numbers rs = flatMap numbersOf rs
 
@@ -58,11 +59,13 @@ numbers rs = flatMap numbersOf rs
 abbrev pub emptyStore : List ℕ → List ℕ → List ℕ → List ℕ → Store
 emptyStore blob directory kinds words = storeOf 0 144 0 (over (fileWrapper 0) blob) directory kinds words
 
--- the edits es, run on the store s: the claim of demand 3 about the counts and buffers that are left, and the replies over the front of their buffer
+-- the edits es, run on the store s: the counts and the whole buffers that are left, the replies over the front of their buffer, and the claim of
+-- demand 3 about that store and those replies
 pub record Ends (s : Store) (es : List Edit) (replies : List ℕ) (r : Ran) (blob' directory' kinds' words' replies' : List ℕ) : Type 0 where
-  pub claim : Edited s es (storeOf (r .objects) (r .«blob_bytes») (r .words) blob' directory' kinds' words') (model (lengthsOf s) es .replies)
-  pub told : replies' ≡ over (numbers (model (lengthsOf s) es .replies)) replies
+  pub left : storeOf (r .objects) (r .«blob_bytes») (r .words) blob' directory' kinds' words' ≡ execute s es .last
+  pub told : replies' ≡ over (numbers (execute s es .replies)) replies
   pub count : r .edits ≡ length es
+  pub claim : Edited s es (execute s es .last) (execute s es .replies)
 
 -- a run whose empty store does not fit: every buffer is kept
 pub record Keeps (blob directory kinds words replies blob' directory' kinds' words' replies' : List ℕ) : Type 0 where

@@ -10,6 +10,7 @@ use Rattle.store.specs.Replies.{Edits, editReplyOf}
 use Rattle.store.specs.declared.edits.Edited.{Edited}
 use Rattle.history.specs.History.{numbersOf}
 
+-- the counted part of the store is the written form of no arrays
 pub record IsEmpty (s : Store) : Type 0 where
   pub is : counted s ≡ serialize []
 
