@@ -13,10 +13,18 @@
  * No call relies on an earlier one: a blob is checked anew each time. No call allocates,
  * keeps a pointer or has a state, so calls may run in several threads at once.
  *
- * What a caller must keep:
+ * What a caller must keep, since the proofs take it for granted:
  *   - a slice is a pointer and its number of ELEMENTS, not bytes;
+ *   - there is memory for that many elements, and its bytes are fewer than 2^63;
  *   - no pointer is NULL, also where the number of elements is 0, and each is aligned;
  *   - what is written (a pointer without const) overlaps nothing else of the same call.
+ *
+ * *place is read in a statement of its own, after the call. Where call and place stand in one
+ * expression, as two arguments of printf do, C leaves open which of them comes first:
+ *
+ *   uint32_t number = mcos_name(blob, blob_len, index, text, text_len, &bytes, &place);
+ *   if (number != 0)
+ *       printf("%" PRIu32 " at %" PRIu64 "\n", number, place);
  *
  * The checks, with their places (positions count from 0):
  *

@@ -7,8 +7,9 @@
 //! # Safety
 //!
 //! A slice is a pointer that is not null and its number of elements. Pointers
-//! are aligned and lead to that many elements; what is written overlaps
-//! nothing else of the call.
+//! are aligned and lead to memory for that many elements, of fewer than 2^63
+//! bytes; what is written overlaps nothing else of the call. The proofs take
+//! all of it for granted; a Rust slice keeps it.
 
 use crate::{Counts, FileWrapper, ObjectRow, Property};
 
