@@ -9,17 +9,17 @@ use borrow.Author.Tests.{le-leb, lt-leb, lt-ltb, le-ltb, eq-eqb, ne-eqb}
 use lib.Dec.{leb}
 use lib.ListN.{length, take, drop, set, length-append, length-set}
 use lib.Seq.{length-slice}
-use Rattle.text.specs.Buffer.{put, Puts, Fills}
+use Rattle.text.specs.Buffer.{put, Puts, Places}
 use Rattle.text.specs.Replies.{lossyLength}
 use Rattle.text.specs.Result.{ok}
-use Rattle.text.specs.Utf8.{lossy, lossySequences}
+use Rattle.text.specs.Utf8.{lossy}
 use Rattle.text.specs.declared.error.MatError.{MatError}
 use Rattle.text.specs.declared.error.MatError.the-variants.{ClassIdOutOfRange, NameIndexOutOfRange, OutputTooShort}
 use Rattle.text.specs.declared.utf8.LossyLength.{LossyLength}
 use Rattle.text.specs.declared.utf8.LossyLength.the-variants as measure
-use Rattle.text.proofs.BufferLaws.{put-front, put-more, length-put}
+use Rattle.text.proofs.BufferLaws.{put-front, put-more, length-put, places-fits}
 use Rattle.text.proofs.ByteLaws.{stores}
-use Rattle.text.proofs.LossyLaws.{length-is, too-long-is, lossy-fills}
+use Rattle.text.proofs.LossyLaws.{length-is, too-long-is}
 use Rattle.text.proofs.ResultLaws.{reply-is}
 use Rattle.text.proofs.Utf8Laws.{lossy-le}
 use Rattle.reader.specs.Names.{pieceBytes, HasName, IsName, InBlob, IsLength, BothInBlob}
@@ -53,17 +53,15 @@ module _ (b : List ℕ) {p : Piece} (i : InBlob b p) where
     said = e ∙ ap lossyLength bytes-are
 
     pub length-piece : {n k : ℕ} → x ≡ measure.Length n k → IsLength b p n
-    length-piece g = let l = length-is (pieceBytes b p) [] said g in record { is = l .0; most = omega (arith, l, most) }
+    length-piece g = let l = length-is (pieceBytes b p) said g in record { is = l .0; most = omega (arith, l, most) }
 
     pub length-never : x ≡ measure.TooLong → IsLength b p 0
-    length-never g = absurd (omega (arith, too-long-is (pieceBytes b p) [] said g, most))
+    length-never g = absurd (omega (arith, too-long-is (pieceBytes b p) said g, most))
 
   pub piece-puts : {text : List ℕ} {at r : ℕ} {text' : List ℕ} → at + length (lossy (pieceBytes b p)) ≤ length text
-      → Fills text at (lossySequences (take (p .end - p .start) (drop (p .start) b))) r text' → Puts text at (lossy (pieceBytes b p)) r text'
+      → Places text at (lossy (take (p .end - p .start) (drop (p .start) b))) r text' → Puts text at (lossy (pieceBytes b p)) r text'
   piece-puts {text} {at} {r} {text'} h f =
-      let g : Fills text at (lossySequences (pieceBytes b p)) r text' = subst (λ (s : List ℕ). Fills text at (lossySequences s) r text') bytes-are f in
-      let l = lossy-fills (pieceBytes b p) h g in
-      record { end = l .1; buffer = l .0 }
+      places-fits text at (lossy (pieceBytes b p)) h (subst (λ (s : List ℕ). Places text at (lossy s) r text') bytes-are f)
 
 -- ---- namespace, full stop, name
 

@@ -13,7 +13,7 @@ use Rattle.text.specs.Utf16.{pairValue, unitStepAt, scalars16, textOf, theText}
 use Rattle.text.specs.declared.utf16.UnitStep.{UnitStep}
 use Rattle.text.specs.declared.utf16.UnitStep.the-variants.{Scalar, Unpaired}
 use Rattle.text.proofs.BufferLaws.{SoFar, Splits, fits-next, placed-whole, places-on, fits-from, begins-from, ends-from}
-use Rattle.text.proofs.ByteLaws.{size-1, size-4, writes-1, writes-4}
+use Rattle.text.proofs.ByteLaws.{size-1, size-4, len-1, writes-1, writes-4}
 use Rattle.text.proofs.DecodeLaws.{Reading, found, found-unpaired, reads-on, Measuring, measure-start, measure-turn, measure-stop, measure-last}
 use Rattle.text.proofs.ScalarLaws.{is-scalar, gap-above, utf8s-nil, utf8s-cons}
 use Rattle.text.proofs.TestLaws.{within-is}
@@ -27,7 +27,7 @@ use Rattle.reader.proofs.UnitLaws.{length-units, reads-units, unit-of, 
 
 value-placed : (v : ℕ) (d : List ℕ) (o : ℕ) → isScalar v ≡ true → o + length (utf8 v) ≤ length d → {o' : ℕ} {d' : List ℕ}
     → o' ≡ o + length (utf8 v) → d' ≡ put d o (utf8 v) → Places d o (encoded utf8 v) o' d'
-value-placed v d o s room a b = simp s (placed-whole d o (utf8 v) room a b)
+value-placed v d o s room a b = simp s (placed-whole d o (utf8 v) room (record { end = a; buffer = b }))
 
 pub pair-placed : (h l : ℕ) (d : List ℕ) (o : ℕ) → PairFits h l o (length d) → {v : ℕ} → v ≡ pairValue h l
     → Places d o (encoded utf8 (pairValue h l)) (o + 4)
@@ -64,14 +64,14 @@ module _ (w : List ℕ) (first k n : ℕ) where
 
   module _ {bytes i : ℕ} (m : Measuring us bytes i) where
     module _ {x : UnitStep} (h : i < n) (e : x ≡ unitStepAt us i) where
-      pub length-turn : {v c l : ℕ} → x ≡ Scalar v c → (l ≡ length (utf8 v)) × (l ≤ 4) → Measuring us (bytes + l) (i + c)
+      pub length-turn : {v c l : ℕ} → x ≡ Scalar v c → (l ≡ length (encoded utf8 v)) × (l ≤ 4) → Measuring us (bytes + l) (i + c)
       length-turn g z = measure-turn m (here h) e g z
 
       pub length-unpaired : x ≡ Unpaired → lengthOf textLength.Unpaired ≡ Option·map length (textOf us)
       length-unpaired g = measure-stop m (here h) e g
 
     pub length-ascii : i < n → {u : ℕ} → u ≡ unitAt w first (k + i) → u < 0x80 → Measuring us (bytes + 1) (i + 1)
-    length-ascii h {u} e l = length-turn h (step-one w first k n i h e (omega arith)) refl (size-1 u l, omega arith)
+    length-ascii h {u} e l = length-turn h (step-one w first k n i h e (omega arith)) refl (len-1 u l, omega arith)
 
     pub length-last : n ≤ i → lengthOf (textLength.Bytes bytes) ≡ Option·map length (textOf us)
     length-last h = measure-last m (omega (arith, length-units w first k n))

@@ -1,7 +1,7 @@
 -- The laws of `put`, and of a loop that writes a text to the start of a buffer, piece by piece.
 -- Assumes nothing.
 use mathlib.Core.Path.{_≡_, refl, _∙_, sym, ap, ap₂}
-use mathlib.Core.List.{List, [], _∷_, _++_, append-assoc, append-nil, flatMap}
+use mathlib.Core.List.{List, [], _∷_, _++_, append-assoc, append-nil}
 use Prim.Native.Nat.{ℕ, suc, _+_, _-_, _≤_, _<_}
 use native.Mathlib.Nat.{add-zero, zero-add}
 use native.Mathlib.Omega.{arith}
@@ -9,8 +9,8 @@ use borrow.Author.Tests.{le-leb, lt-leb, leb-true, leb-false}
 use lib.Dec.{leb}
 use lib.ListN.{length, getD, take, drop, set, length-set, length-append, length-drop, take-append-drop}
 use lib.Seq.{length-take-le, take-all, take-at, drop-at, set-at, drop-cons, drop-drop, append-snoc, take-suc, drop-append-le, slice}
-use Rattle.text.specs.Buffer.{put, Puts, placed, placedEnd, Places, Filled, fill}
-use Rattle.text.proofs.TestLaws.{either, cond-both}
+use Rattle.text.specs.Buffer.{put, Puts, placed, placedEnd, Places}
+use Rattle.text.proofs.TestLaws.{either}
 
 pub put-none : (d : List ℕ) (at : ℕ) → put d at [] ≡ d
 unfolding put
@@ -162,52 +162,31 @@ module _ (d : List ℕ) (i : ℕ) (w : List ℕ) where
   unfolding placed placedEnd
   placed-not h = record { end = simp (lt-leb (i + length w) (length d) h); buffer = simp (lt-leb (i + length w) (length d) h) }
 
-  pub placed-whole : i + length w ≤ length d → {e : ℕ} {d' : List ℕ} → e ≡ i + length w → d' ≡ put d i w → Places d i w e d'
-  unfolding placed placedEnd
-  placed-whole h a b = record { end = simp (le-leb (i + length w) (length d) h) a; buffer = simp (le-leb (i + length w) (length d) h) b }
+  pub placed-past : length d < i → Places d i w i d
+  placed-past h = placed-not (omega arith)
 
-  pub places-fits : i + length w ≤ length d → {e : ℕ} {d' : List ℕ} → Places d i w e d' → (e ≡ i + length w) × (d' ≡ put d i w)
+  pub placed-whole : i + length w ≤ length d → {e : ℕ} {d' : List ℕ} → Puts d i w e d' → Places d i w e d'
   unfolding placed placedEnd
-  places-fits h p = (simp (le-leb (i + length w) (length d) h) at (p .end), simp (le-leb (i + length w) (length d) h) at (p .buffer))
+  placed-whole h p = record { end = simp (le-leb (i + length w) (length d) h) (p .end); buffer = simp (le-leb (i + length w) (length d) h) (p .buffer) }
 
-pub places-same : {d : List ℕ} {i : ℕ} {w : List ℕ} {e : ℕ} {d' : List ℕ} → Places d i w e d' → length d' ≡ length d
-unfolding placed
-places-same {d} {i} {w} {e} {d'} p =
-    ap length (p .buffer)
-    ∙ cond-both (λ (x : List ℕ). length x ≡ length d) (leb (i + length w) (length d)) (put d i w) d (λ t. length-put d i w (leb-true _ _ t)) (λ t. refl)
+  pub places-fits : i + length w ≤ length d → {e : ℕ} {d' : List ℕ} → Places d i w e d' → Puts d i w e d'
+  unfolding placed placedEnd
+  places-fits h p = record {
+    end = simp (le-leb (i + length w) (length d) h) at (p .end);
+    buffer = simp (le-leb (i + length w) (length d) h) at (p .buffer);
+  }
 
 pub placed-nothing : (d : List ℕ) (i : ℕ) → Places d i [] i d
 placed-nothing d i =
-    either (leb (i + 0) (length d)) (λ e. placed-whole d i [] (leb-true _ _ e) (omega arith) (sym (put-none d i))) (λ e. placed-not d i [] (leb-false _ _ e))
+    either (leb (i + 0) (length d)) (λ e. placed-whole d i [] (leb-true _ _ e) (record { end = omega arith; buffer = sym (put-none d i) }))
+    (λ e. placed-not d i [] (leb-false _ _ e))
 
 -- the next piece is written where it fits, and it does
 pub places-on : {all rest w next d₀ d : List ℕ} {o : ℕ} → length all ≤ length d₀ → Splits rest w next → SoFar all rest d₀ d o
     → {e : ℕ} {d' : List ℕ} → Places d o w e d' → SoFar all next d₀ d' e
 places-on {all} {rest} {w} {next} {d₀} {d} {o} room p f {e} {d'} q =
     let r = places-fits d o w (fits-next room p f) q in
-    goes-on room p f d' e (r .1) (r .0)
-
--- ---- pieces written one after another
-
--- a record needs a type where it is made
-abbrev filled : List ℕ → ℕ → Filled
-filled x k = record { buffer = x; next = k }
-
-abbrev joined : List (List ℕ) → List ℕ
-joined ws = flatMap (λ w. w) ws
-
--- pieces that fit as a whole are written as a whole
-pub fill-fits : (d : List ℕ) (i : ℕ) (ws : List (List ℕ)) → i + length (joined ws) ≤ length d
-    → fill d i ws ≡ record { buffer = put d i (joined ws); next = i + length (joined ws) }
-unfolding fill flatMap
-fill-fits d i [] h = rw (put-none d i, add-zero i)
-fill-fits d i (w ∷ ws) h =
-    let n : length (w ++ joined ws) ≡ length w + length (joined ws) = length-append w (joined ws) in
-    let r = places-fits d i w (omega arith) (record { end = refl; buffer = refl }) in
-    let l : length (put d i w) ≡ length d = length-put d i w (omega arith) in
-    ap₂ (λ (x : List ℕ) (k : ℕ). fill x k ws) (r .1) (r .0)
-    ∙ fill-fits (put d i w) (i + length w) ws (omega arith)
-    ∙ ap₂ (λ (x : List ℕ) (k : ℕ). filled x k) (put-more d i w (joined ws) (i + length w) refl (omega arith)) (omega arith)
+    goes-on room p f d' e (r .buffer) (r .end)
 
 -- ---- the same from an index on: what stands before it is the part that is written already
 

@@ -1,6 +1,6 @@
 -- The bytes of a scalar value by its size, as the code has them: how many, and stored one by one.
 -- Assumes nothing.
-use mathlib.Core.Path.{_≡_, sym, _∙_}
+use mathlib.Core.Path.{_≡_, sym, ap, _∙_}
 use mathlib.Core.Bool.{Bool, true, false, not, and-true, and-false}
 use mathlib.Core.List.{List, [], _∷_}
 use Prim.Native.Nat.{ℕ, suc, _+_, _-_, _/_, _%_, _≤_, _<_}
@@ -10,11 +10,10 @@ use lib.Dec.{ltb}
 use lib.ListN.{length, set}
 use lib.Seq.{sets, sets-eq}
 use Rattle.text.specs.Buffer.{put, Places}
-use Rattle.text.specs.Unicode.{isScalar, utf8, utf16, encoded}
-use Rattle.text.specs.Replies.{unitsFrom}
-use Rattle.text.specs.declared.utf8.Units.{Units}
+use Rattle.text.specs.Unicode.{isScalar, utf8, encoded}
 use Rattle.text.proofs.BufferLaws.{placed-not, placed-whole, placed-nothing}
-use Rattle.text.proofs.ScalarLaws.{scalar-is, utf8-1, utf8-2, utf8-3, utf8-4, utf16-1, utf16-2}
+use Rattle.text.proofs.ScalarLaws.{scalar-is, is-scalar, encoded-is, gap-below, utf8-1, utf8-2, utf8-3, utf8-4, lengths}
+use Rattle.text.proofs.TestLaws.{cond-both, either}
 
 module _ (v : ℕ) where
   pub size-1 : v < 0x80 → 1 ≡ length (utf8 v)
@@ -28,16 +27,6 @@ module _ (v : ℕ) where
 
   pub size-4 : 0x10000 ≤ v → 4 ≡ length (utf8 v)
   size-4 l = rw (utf8-4 v l)
-
-  pub size16-1 : v < 0x10000 → 1 ≡ length (utf16 v)
-  size16-1 h = rw (utf16-1 v h)
-
-  pub size16-2 : 0x10000 ≤ v → 2 ≡ length (utf16 v)
-  size16-2 h = rw (utf16-2 v h)
-
-pub ruleset sizes = (size-1, size-2, size-3, size-4)
-
-pub ruleset sizes16 = (size16-1, size16-2)
 
 -- stores one after another
 pub stores : (w d : List ℕ) (at : ℕ) → at + length w ≤ length d → sets d at w ≡ put d at w
@@ -84,41 +73,56 @@ module _ (v : ℕ) where
   pub scalar-gap : 0xD800 ≤ v → v ≤ 0xDFFF → ltb 0xDFFF v ≡ isScalar v
   scalar-gap l h = simp (le-ltb 0xDFFF v h, le-leb 0xD800 v l, le-leb v 0xDFFF h, and-false)
 
+  -- ---- the returns of `utf8_len`
+
+  len-of : {n : ℕ} → isScalar v ≡ true → n ≡ length (utf8 v) → n ≡ length (encoded utf8 v)
+  len-of s e = rw (encoded-is v s) e
+
+  pub len-1 : v < 0x80 → 1 ≡ length (encoded utf8 v)
+  len-1 h = len-of (is-scalar {v = v} (record { top = omega arith; gap = gap-below v (omega arith) })) (size-1 v h)
+
+  pub len-2 : 0x80 ≤ v → v < 0x800 → 2 ≡ length (encoded utf8 v)
+  len-2 l h = len-of (is-scalar {v = v} (record { top = omega arith; gap = gap-below v (omega arith) })) (size-2 v l h)
+
   module _ {r : Bool} (is : r ≡ isScalar v) where
-    encoded-none : (form : ℕ → List ℕ) → not r ≡ true → encoded form v ≡ []
-    encoded-none form n = simp (sym is ∙ not-true r n)
+    pub len-none : not r ≡ true → 0 ≡ length (encoded utf8 v)
+    len-none n = simp (sym is ∙ not-true r n)
 
-    pub encoded-is : (form : ℕ → List ℕ) → not r ≡ false → encoded form v ≡ form v
-    encoded-is form n = simp (sym is ∙ not-false r n)
+    module _ (yes : not r ≡ false) where
+      pub len-3 : 0x800 ≤ v → v < 0x10000 → 3 ≡ length (encoded utf8 v)
+      len-3 l h = len-of (sym is ∙ not-false r yes) (size-3 v l h)
 
-    pub top-is : not r ≡ false → v < 0x110000
-    top-is n = scalar-is v (sym is ∙ not-false r n) .top
+      pub len-4 : 0x10000 ≤ v → 4 ≡ length (encoded utf8 v)
+      len-4 l = len-of (sym is ∙ not-false r yes) (size-4 v l)
 
-    pub units-none : not r ≡ true → _≡_ {A = Units} (record { count = 0; first = 0; second = 0 }) (unitsFrom (encoded utf16 v))
-    units-none n = rw (encoded-none utf16 n)
+  -- ---- the returns of `put_scalar`
 
-    pub units-one : not r ≡ false → v < 0x10000 → _≡_ {A = Units} (record { count = 1; first = v; second = 0 }) (unitsFrom (encoded utf16 v))
-    units-one n h = rw (encoded-is utf16 n ∙ utf16-1 v h)
+  module _ {n : ℕ} {d : List ℕ} {at : ℕ} (size : (n ≡ length (encoded utf8 v)) × (n ≤ 4)) where
+    pub put-short : length d < n → Places d at (encoded utf8 v) at d
+    put-short h = placed-not d at (encoded utf8 v) (omega arith)
 
-    pub units-two : not r ≡ false → 0x10000 ≤ v
-        → _≡_ {A = Units} (record { count = 2; first = 0xD800 + (v - 0x10000) / 1024; second = 0xDC00 + (v - 0x10000) % 1024 }) (unitsFrom (encoded utf16 v))
-    units-two n h = rw (encoded-is utf16 n ∙ utf16-2 v h)
+    pub put-past : length d - n < at → Places d at (encoded utf8 v) at d
+    put-past h = placed-not d at (encoded utf8 v) (omega arith)
 
-    module _ {d : List ℕ} {at : ℕ} where
-      pub put-none-is : not r ≡ true → Places d at (encoded utf8 v) at d
-      put-none-is n = rw (encoded-none utf8 n) (placed-nothing d at)
+    pub put-none : n ≡ 0 → Places d at (encoded utf8 v) at d
+    put-none z =
+        cond-both (λ (w : List ℕ). Places d at w at d) (isScalar v) (utf8 v) []
+        (λ e. absurd (omega (arith, ap length (encoded-is v e), lengths v))) (λ e. placed-nothing d at)
 
-      module _ {n : ℕ} (yes : not r ≡ false) (size : (n ≡ length (utf8 v)) × (n ≤ 4)) where
-        pub put-short : length d < n → Places d at (encoded utf8 v) at d
-        put-short h = rw (encoded-is utf8 yes) (placed-not d at (utf8 v) (omega arith))
+  module _ {n : ℕ} (some : n ≡ 0 → ⊥) (size : (n ≡ length (encoded utf8 v)) × (n ≤ 4)) where
+    is-written : isScalar v ≡ true
+    is-written = either (isScalar v) (λ e. e) (λ e. let z : n ≡ 0 = simp e at (size .0) in absurd (some z))
 
-        pub put-past : length d - n < at → Places d at (encoded utf8 v) at d
-        put-past h = rw (encoded-is utf8 yes) (placed-not d at (utf8 v) (omega arith))
+    pub top-is : v < 0x110000
+    top-is = scalar-is v is-written .top
 
-        pub put-done : {e : ℕ} {d' : List ℕ} → n ≤ length d → at ≤ length d - n → (e ≡ at + length (utf8 v)) × (d' ≡ put d at (utf8 v))
-            → Places d at (encoded utf8 v) e d'
-        put-done h k p = rw (encoded-is utf8 yes) (placed-whole d at (utf8 v) (omega arith) (p .0) (p .1))
+    module _ (d : List ℕ) (at : ℕ) (h : n ≤ length d) (k : at ≤ length d - n) where
+      pub put-room : at + length (utf8 v) ≤ length d
+      put-room = omega (arith, ap length (encoded-is v is-written))
+
+      pub put-done : {e : ℕ} {d' : List ℕ} → (e ≡ at + length (utf8 v)) × (d' ≡ put d at (utf8 v)) → Places d at (encoded utf8 v) e d'
+      put-done p = rw (encoded-is v is-written) (placed-whole d at (utf8 v) put-room (record { end = p .0; buffer = p .1 }))
+
+pub ruleset lens = (len-1, len-2, len-none, len-3, len-4)
 
 pub ruleset scalar-tests = (scalar-below, scalar-above, scalar-gap)
-
-pub ruleset unit-laws = (units-none, units-one, units-two)

@@ -1,14 +1,14 @@
 -- The loops that measure and write a repaired text.
 -- Assumes nothing.
 use mathlib.Core.Path.{_≡_, refl, _∙_, sym, ap, ap₂}
-use mathlib.Core.Bool.{Bool, true, false, cond}
-use mathlib.Core.List.{List, [], _∷_, _++_, map, flatMap}
+use mathlib.Core.Bool.{Bool, true, false, cond, not}
+use mathlib.Core.List.{List, [], _∷_, _++_, flatMap}
 use mathlib.Core.Option.{some, none, Option·map}
 use Prim.Native.Nat.{ℕ, _+_, _-_, _*_, _/_, _^_, _≤_, _<_, min}
 use native.Mathlib.Omega.{arith}
-use borrow.Author.Tests.{lt-ltb, le-ltb, lt-leb, le-leb, leb-true, ltb-true, ltb-false}
+use borrow.Author.Tests.{lt-ltb, le-ltb, lt-leb, le-leb, leb-true, leb-false, ltb-true, ltb-false, not-true, not-false}
 use lib.Dec.{leb, ltb}
-use lib.ListN.{length, getD, length-append}
+use lib.ListN.{length, getD, take, length-append}
 use Rattle.text.specs.declared.utf8.Step.{Step}
 use Rattle.text.specs.declared.utf8.Step.the-variants.{Scalar, IllFormed, End}
 use Rattle.text.specs.declared.utf8.LossyLength.{LossyLength}
@@ -17,17 +17,17 @@ use Rattle.text.specs.declared.utf8.UnitCount.{UnitCount}
 use Rattle.text.specs.declared.utf8.UnitCount.the-variants as count
 use Rattle.text.specs.declared.utf8.LossyReply.{LossyReply}
 use Rattle.text.specs.declared.utf8.LossyReply.the-variants as lossyReply
-use Rattle.text.specs.Buffer.{put, Places, Filled, fill, Fills}
+use Rattle.text.specs.Buffer.{put, Puts, Places}
 use Rattle.text.specs.Replies.{CountsUnits, lossyLength, WritesLossy}
 use Rattle.text.specs.Result.{needPlace}
-use Rattle.text.specs.Unicode.{isScalar, utf8, utf8s, encoded}
-use Rattle.text.specs.Utf8.{Part, sequence, illFormed, stepAt, partsFrom, scalarsOf, firstIllFormed, repaired, replacedIn, lossy, lossySequences}
-use Rattle.text.proofs.BufferLaws.{put-front, places-same, fill-fits}
+use Rattle.text.specs.Unicode.{isScalar, utf8, utf8s}
+use Rattle.text.specs.Utf8.{Part, sequence, illFormed, stepAt, partsFrom, scalarsOf, firstIllFormed, repaired, replacedIn, lossy}
+use Rattle.text.proofs.BufferLaws.{SoFar, Splits, put-front, fits-next, goes-on, placed-not, placed-whole, fits-from, begins-from, ends-from}
 use Rattle.text.proofs.CountLaws.{valid-units, valid-place}
 use Rattle.text.proofs.LeadLaws.{ascii}
 use Rattle.text.proofs.PartLaws.{Advances, step-reads, step-breaks, step-end, parts-end, parts-scalar, parts-ill-formed, parts-rule}
-use Rattle.text.proofs.ScalarLaws.{is-scalar}
-use Rattle.text.proofs.Utf8Laws.{step-took, took-size, spelled}
+use Rattle.text.proofs.ScalarLaws.{scalar-is, is-scalar, utf8s-cons}
+use Rattle.text.proofs.Utf8Laws.{step-took, took-size, spelled, lossy-le}
 
 -- what a step writes: the scalar value w, with k replaced parts
 pub record Writes (s : List ℕ) (i next w k : ℕ) : Type 0 where
@@ -35,6 +35,10 @@ pub record Writes (s : List ℕ) (i next w k : ℕ) : Type 0 where
   pub scalar : isScalar w ≡ true
   pub parts : repaired (partsFrom s i) ≡ w ∷ repaired (partsFrom s next)
   pub count : replacedIn (partsFrom s i) ≡ k + replacedIn (partsFrom s next)
+
+-- its bytes come first of the text that is left
+pub splits : {s : List ℕ} {i next w k : ℕ} → Writes s i next w k → Splits (utf8s (repaired (partsFrom s i))) (utf8 w) (utf8s (repaired (partsFrom s next)))
+splits {s} {i} {next} {w} x = record { is = ap utf8s (x .parts) ∙ utf8s-cons w (repaired (partsFrom s next)) }
 
 module _ (s : List ℕ) (i : ℕ) {x : Step} (e : x ≡ stepAt s i) where
   pub writes-scalar : {v next : ℕ} → x ≡ Scalar v next → Writes s i next v 0
@@ -79,8 +83,7 @@ module _ (s : List ℕ) where
   module _ {broken replaced i : ℕ} (m : Measuring s broken replaced i) where
     split-size : {next w k : ℕ} → Writes s i next w k
         → length (utf8s (repaired (partsFrom s i))) ≡ length (utf8 w) + length (utf8s (repaired (partsFrom s next)))
-    unfolding flatMap
-    split-size {next} {w} x = ap (λ (vs : List ℕ). length (utf8s vs)) (x .parts) ∙ length-append (utf8 w) (utf8s (repaired (partsFrom s next)))
+    split-size {next} {w} x = ap length (splits x .is) ∙ length-append (utf8 w) (utf8s (repaired (partsFrom s next)))
 
     measure-scalar : {v next : ℕ} → stepAt s i ≡ Scalar v next → Measuring s broken replaced next
     measure-scalar e =
@@ -149,55 +152,44 @@ module _ (s : List ℕ) where
 
 -- ---- writing
 
--- the sequences from i on, put after what is written, give what all of them give
+-- the repaired text of s is written into d₀ from index at on, up to position i and index o
 pub record Writing (s d₀ : List ℕ) (at : ℕ) (d : List ℕ) (i o : ℕ) : Type 0 where
-  pub bound : i ≤ length s
-  pub same : length d ≡ length d₀
-  pub rest : fill d₀ at (lossySequences s) ≡ fill d o (map utf8 (repaired (partsFrom s i)))
+  pub room : at + length (lossy s) ≤ length d₀
+  pub so-far : SoFar (take at d₀ ++ lossy s) (utf8s (repaired (partsFrom s i))) d₀ d o
 
 module _ (s : List ℕ) where
-  pub write-start : (d₀ : List ℕ) (at : ℕ) → Writing s d₀ at d₀ 0 at
-  write-start d₀ at = record { bound = omega arith; same = refl; rest = refl }
+  pub write-start : (d₀ : List ℕ) (at : ℕ) → at + length (lossy s) ≤ length d₀ → Writing s d₀ at d₀ 0 at
+  write-start d₀ at h = record { room = h; so-far = begins-from d₀ (lossy s) at h }
 
   module _ {d₀ d : List ℕ} {at i o : ℕ} (t : Writing s d₀ at d i o) where
-    write-on : {next w k : ℕ} → Writes s i next w k → {e : ℕ} {d' : List ℕ} → Places d o (encoded utf8 w) e d' → Writing s d₀ at d' next e
-    unfolding fill
-    write-on {next} {w} x {e} {d'} p =
-        let q : Places d o (utf8 w) e d' = simp (x .scalar) at p in
-        record {
-          bound = x .advance .inside;
-          same = places-same q ∙ t .same;
-          rest =
-              t .rest
-              ∙ ap (λ (vs : List ℕ). fill d o (map utf8 vs)) (x .parts)
-              ∙ ap₂ (λ (y : List ℕ) (k : ℕ). fill y k (map utf8 (repaired (partsFrom s next)))) (sym (q .buffer)) (sym (q .end));
-        }
+    module _ {next w k : ℕ} (x : Writes s i next w k) where
+      next-room : o + length (utf8 w) ≤ length d
+      next-room = fits-next (fits-from d₀ (lossy s) at (t .room)) (splits x) (t .so-far)
+
+      write-on : {e : ℕ} {d' : List ℕ} → e ≡ o + length (utf8 w) → d' ≡ put d o (utf8 w) → Writing s d₀ at d' next e
+      write-on {e} {d'} p q = record { room = t .room; so-far = goes-on (fits-from d₀ (lossy s) at (t .room)) (splits x) (t .so-far) d' e q p }
 
     module _ {x : Step} (e : x ≡ stepAt s i) where
-      pub write-scalar : {v next r : ℕ} {d' : List ℕ} → x ≡ Scalar v next → Places d o (encoded utf8 v) r d' → Writing s d₀ at d' next r
-      write-scalar g p = write-on (writes-scalar s i e g) p
+      module _ {v next : ℕ} (g : x ≡ Scalar v next) where
+        pub scalar-top : v < 1114112
+        scalar-top = scalar-is v (writes-scalar s i e g .scalar) .top
 
-      pub write-replacement : {next r : ℕ} {d' : List ℕ} → x ≡ IllFormed next → Places d o (encoded utf8 0xFFFD) r d' → Writing s d₀ at d' next r
-      write-replacement g p = write-on (writes-replacement s i e g) p
+        pub scalar-room : o + length (utf8 v) ≤ length d
+        scalar-room = next-room (writes-scalar s i e g)
 
-      pub write-last : x ≡ End → Fills d₀ at (lossySequences s) o d
-      unfolding repaired fill
-      write-last g = record { is = sym (rw (nothing-left s i e g) at (t .rest)) }
+        pub write-scalar : {r : ℕ} {d' : List ℕ} → r ≡ o + length (utf8 v) → d' ≡ put d o (utf8 v) → Writing s d₀ at d' next r
+        write-scalar p q = write-on (writes-scalar s i e g) p q
 
--- the sequences of a repaired text are the text
-sequences-joined : (vs : List ℕ) → flatMap (λ w. w) (map utf8 vs) ≡ utf8s vs
-unfolding flatMap
-sequences-joined [] = refl
-sequences-joined (v ∷ vs) = ap (λ (x : List ℕ). utf8 v ++ x) (sequences-joined vs)
+      module _ {next : ℕ} (g : x ≡ IllFormed next) where
+        pub replacement-room : o + length (utf8 0xFFFD) ≤ length d
+        replacement-room = next-room (writes-replacement s i e g)
 
--- a text that fits is written
-pub lossy-fills : (s : List ℕ) {d d' : List ℕ} {i next : ℕ} → i + length (lossy s) ≤ length d → Fills d i (lossySequences s) next d'
-    → (d' ≡ put d i (lossy s)) × (next ≡ i + length (lossy s))
-lossy-fills s {d} {d'} {i} {next} h f =
-    let j = sequences-joined (repaired (partsFrom s 0)) in
-    let r = fill-fits d i (lossySequences s) (rw j h) in
-    let e = f .is ∙ r in
-    (ap (λ (x : Filled). x .buffer) e ∙ ap (put d i) j, ap (λ (x : Filled). x .next) e ∙ ap (λ (x : List ℕ). i + length x) j)
+        pub write-replacement : {r : ℕ} {d' : List ℕ} → r ≡ o + length (utf8 0xFFFD) → d' ≡ put d o (utf8 0xFFFD) → Writing s d₀ at d' next r
+        write-replacement p q = write-on (writes-replacement s i e g) p q
+
+      pub write-last : x ≡ End → Puts d₀ at (lossy s) o d
+      unfolding repaired flatMap
+      write-last g = ends-from d₀ (lossy s) at (t .room) (rw (nothing-left s i e g) at (t .so-far))
 
 -- a text in which nothing is replaced is its own repaired text
 whole-parts : (ps : List Part) → replacedIn ps ≡ 0 → scalarsOf ps ≡ some (repaired ps)
@@ -228,9 +220,9 @@ module _ (s : List ℕ) {x : UnitCount} (c : CountsUnits s x) where
   pub first-broken : {at : ℕ} → x ≡ count.IllFormed at → firstIllFormed (partsFrom s 0) ≡ some at
   first-broken e = sym (valid-place s c e)
 
--- ---- the public call
+-- ---- what a measured length says
 
-module _ (s out : List ℕ) {x : LossyLength} (is : x ≡ lossyLength s) where
+module _ (s : List ℕ) {x : LossyLength} (is : x ≡ lossyLength s) where
   pub length-is : {n r : ℕ} → x ≡ measure.Length n r → (n ≡ length (lossy s)) × (r ≡ replacedIn (partsFrom s 0)) × (n < 2 ^ 64)
   unfolding lossyLength
   length-is {n} {r} e = by (ltb (length (lossy s)) (2 ^ 64)) refl (sym is ∙ e)
@@ -251,39 +243,67 @@ module _ (s out : List ℕ) {x : LossyLength} (is : x ≡ lossyLength s) where
       by true f k = let z : _≡_ {A = ℕ} 0 1 = cc in absurd (omega arith)
       by false f k = ltb-false (length (lossy s)) (2 ^ 64) f
 
+  -- ---- the returns of `lossy_fits`
+
+  pub fits-measured : {n r : ℕ} → x ≡ measure.Length n r → (room : ℕ) → leb n room ≡ leb (length (lossy s)) room
+  fits-measured e room = ap (λ (k : ℕ). leb k room) (length-is e .0)
+
+  pub fits-never : {room : ℕ} → x ≡ measure.TooLong → room < 2 ^ 64 → false ≡ leb (length (lossy s)) room
+  fits-never {room} e h = sym (lt-leb (length (lossy s)) room (omega (arith, too-long-is e)))
+
+pub fits-thrice : (s : List ℕ) (room : ℕ) → length s ≤ room / 3 → true ≡ leb (length (lossy s)) room
+fits-thrice s room h = sym (le-leb (length (lossy s)) room (omega (arith, lossy-le s)))
+
+-- ---- the returns of `put_lossy`
+
+module _ (s d : List ℕ) (at : ℕ) {r : Bool} (h : at ≤ length d) (is : r ≡ leb (length (lossy s)) (length d - at)) where
+  pub lossy-kept : not r ≡ true → Places d at (lossy s) at d
+  lossy-kept n = placed-not d at (lossy s) (omega (arith, leb-false (length (lossy s)) (length d - at) (sym is ∙ not-true r n)))
+
+  module _ (y : not r ≡ false) where
+    pub lossy-inside : at + length (lossy s) ≤ length d
+    lossy-inside = omega (arith, leb-true (length (lossy s)) (length d - at) (sym is ∙ not-false r y))
+
+    pub lossy-placed : {e : ℕ} {d' : List ℕ} → Puts d at (lossy s) e d' → Places d at (lossy s) e d'
+    lossy-placed p = placed-whole d at (lossy s) lossy-inside p
+
+-- ---- the returns of `write_lossy`
+
+module _ (s out : List ℕ) {x : LossyLength} (is : x ≡ lossyLength s) where
   pub lossy-short : {n r : ℕ} → x ≡ measure.Length n r → length out < n → WritesLossy s out (lossyReply.TooShort n) out
   lossy-short {n} e h =
-      let l = length-is e in
+      let l = length-is s is e in
       let t : leb (length (lossy s)) (length out) ≡ false = lt-leb (length (lossy s)) (length out) (omega (arith, l)) in
       let p : n ≡ min (length (lossy s)) (2 ^ 64 - 1) = omega (arith, l) in
       record { reply = simp t (ap (λ (k : ℕ). lossyReply.TooShort k) p); buffer = simp t }
 
-  pub lossy-written : {n r : ℕ} {out' : List ℕ} → x ≡ measure.Length n r → n ≤ length out → {o : ℕ} → Fills out 0 (lossySequences s) o out' → WritesLossy s out (lossyReply.Written n r) out'
-  lossy-written e h w =
-      let l = length-is e in
-      let t : leb (length (lossy s)) (length out) ≡ true = le-leb (length (lossy s)) (length out) (omega (arith, l)) in
-      record { reply = simp t (ap₂ (λ (b k : ℕ). lossyReply.Written b k) (l .0) (l .1)); buffer = simp t (lossy-fills s (omega (arith, l)) w .0 ∙ put-front out (lossy s)) }
+  module _ {n r : ℕ} (e : x ≡ measure.Length n r) (h : n ≤ length out) where
+    pub lossy-room : 0 + length (lossy s) ≤ length out
+    lossy-room = omega (arith, length-is s is e)
 
-  -- the text itself is written where nothing is replaced
-  module _ {n r : ℕ} (e : x ≡ measure.Length n r) (h : n ≤ length out) (z : r ≡ 0) where
-    is-own : s ≡ lossy s
-    is-own = own-repair s (sym (length-is e .1) ∙ z)
+    lossy-put : {out' : List ℕ} → out' ≡ put out 0 (lossy s) → WritesLossy s out (lossyReply.Written n r) out'
+    lossy-put w =
+        let l = length-is s is e in
+        let t : leb (length (lossy s)) (length out) ≡ true = le-leb (length (lossy s)) (length out) (omega (arith, lossy-room)) in
+        record { reply = simp t (ap₂ (λ (b k : ℕ). lossyReply.Written b k) (l .0) (l .1)); buffer = simp t (w ∙ put-front out (lossy s)) }
 
-    pub own-fits : length s ≤ length out
-    own-fits = omega (arith, length-is e, ap length is-own)
+    pub lossy-written : {o : ℕ} {out' : List ℕ} → Puts out 0 (lossy s) o out' → WritesLossy s out (lossyReply.Written n r) out'
+    lossy-written w = lossy-put (w .buffer)
 
-    pub lossy-own : {out' : List ℕ} → out' ≡ put out 0 s → WritesLossy s out (lossyReply.Written n r) out'
-    lossy-own w =
-        let l = length-is e in
-        let t : leb (length (lossy s)) (length out) ≡ true = le-leb (length (lossy s)) (length out) (omega (arith, l)) in
-        record {
-          reply = simp t (ap₂ (λ (b k : ℕ). lossyReply.Written b k) (l .0) (l .1));
-          buffer = simp t (w ∙ ap (put out 0) is-own ∙ put-front out (lossy s));
-        }
+    -- the text itself is written where nothing is replaced
+    module _ (z : r ≡ 0) where
+      is-own : s ≡ lossy s
+      is-own = own-repair s (sym (length-is s is e .1) ∙ z)
+
+      pub own-fits : length s ≤ length out
+      own-fits = omega (arith, lossy-room, ap length is-own)
+
+      pub lossy-own : {out' : List ℕ} → out' ≡ put out 0 s → WritesLossy s out (lossyReply.Written n r) out'
+      lossy-own w = lossy-put (w ∙ ap (put out 0) is-own)
 
   pub lossy-past : length out < 2 ^ 64 - 1 → x ≡ measure.TooLong → WritesLossy s out (lossyReply.TooShort 18446744073709551615) out
   lossy-past h e =
-      let l = too-long-is e in
+      let l = too-long-is s is e in
       let t : leb (length (lossy s)) (length out) ≡ false = lt-leb (length (lossy s)) (length out) (omega arith) in
       let p : 18446744073709551615 ≡ min (length (lossy s)) (2 ^ 64 - 1) = omega arith in
       record { reply = simp t (ap (λ (k : ℕ). lossyReply.TooShort k) p); buffer = simp t }

@@ -12,12 +12,12 @@ use lib.Seq.{length-take-le}
 use Rattle.text.specs.declared.utf8.Step.{Step}
 use Rattle.text.specs.declared.utf8.Step.the-variants.{Scalar, IllFormed, End}
 use Rattle.text.specs.Buffer.{same}
-use Rattle.text.specs.Unicode.{isScalar, utf8, utf8s}
+use Rattle.text.specs.Unicode.{isScalar, utf8, utf8s, encoded}
 use Rattle.text.specs.Stages.{stepHas}
 use Rattle.text.specs.Utf8.{stepAt, partsFrom, repaired, lossy}
-use Rattle.text.proofs.LossyLaws.{Writes, writes-scalar, writes-replacement, nothing-left, replacement-size}
+use Rattle.text.proofs.LossyLaws.{Writes, splits, writes-scalar, writes-replacement, nothing-left, replacement-size}
 use Rattle.text.proofs.PartLaws.{step-reads}
-use Rattle.text.proofs.ScalarLaws.{scalar-is}
+use Rattle.text.proofs.ScalarLaws.{scalar-is, encoded-is}
 use Rattle.text.proofs.TestLaws.{not-both, and-is, either}
 use Rattle.text.proofs.Utf8Laws.{step-utf8, step-took, took-size}
 
@@ -109,8 +109,7 @@ module _ (s t : List ℕ) where
 
   module _ {i o : ℕ} (m : Matching s t i o) where
     split : {next w k : ℕ} → Writes s i next w k → same (lossy s) t ≡ same (utf8 w ++ utf8s (repaired (partsFrom s next))) (drop o t)
-    unfolding flatMap
-    split x = rw (x .parts) at (m .rest)
+    split x = rw (splits x .is) at (m .rest)
 
     turn : {next w k n : ℕ} → Writes s i next w k → n ≡ length (utf8 w) → stepHas (stepAt t o) w ≡ true → Matching s t next (o + n)
     turn {next} {w} x l h =
@@ -122,8 +121,10 @@ module _ (s t : List ℕ) where
         sym (split x ∙ same-not _ _ (λ e. not-both (stands-read t o w _ (x .scalar) (m .bound) e) h))
 
     module _ {x : Step} (e : x ≡ stepAt s i) {b : Bool} where
-      pub match-scalar : {v next n : ℕ} → x ≡ Scalar v next → b ≡ stepHas (stepAt t o) v → not b ≡ false → (n ≡ length (utf8 v)) × (n ≤ 4) → Matching s t next (o + n)
-      match-scalar g h y l = turn (writes-scalar s i e g) (l .0) (sym h ∙ not-false b y)
+      pub match-scalar : {v next n : ℕ} → x ≡ Scalar v next → b ≡ stepHas (stepAt t o) v → not b ≡ false → (n ≡ length (encoded utf8 v)) × (n ≤ 4) → Matching s t next (o + n)
+      match-scalar {v} g h y l =
+          let w = writes-scalar s i e g in
+          turn w (l .0 ∙ ap length (encoded-is v (w .scalar))) (sym h ∙ not-false b y)
 
       pub match-replacement : {next : ℕ} → x ≡ IllFormed next → b ≡ stepHas (stepAt t o) 0xFFFD → not b ≡ false → Matching s t next (o + 3)
       match-replacement g h y = turn (writes-replacement s i e g) (sym replacement-size) (sym h ∙ not-false b y)

@@ -8,7 +8,7 @@ use native.Mathlib.Omega.{arith}
 use borrow.Author.Tests.{lt-ltb, le-ltb, ltb-true, ltb-false, not-true}
 use lib.Dec.{ltb}
 use lib.ListN.{length, length-append}
-use Rattle.text.specs.Unicode.{Below, isSurrogate, isScalar, utf8, utf16, utf8s, utf16s}
+use Rattle.text.specs.Unicode.{Below, isSurrogate, isScalar, utf8, utf16, utf8s, utf16s, encoded}
 use Rattle.text.proofs.TestLaws.{and-is, either, within-under, within-over, within-not}
 
 pub record IsScalar (v : ℕ) : Type 0 where
@@ -26,6 +26,9 @@ scalar-is v e =
 
 pub is-scalar : {v : ℕ} → IsScalar v → isScalar v ≡ true
 is-scalar {v} s = simp (lt-ltb v 0x110000 (s .top), s .gap)
+
+pub encoded-is : (v : ℕ) → isScalar v ≡ true → encoded utf8 v ≡ utf8 v
+encoded-is v e = simp e
 
 -- ---- what is no surrogate
 

@@ -34,17 +34,3 @@ placedEnd d i w = cond (leb (i + length w) (length d)) (i + length w) i
 pub record Places (d : List ℕ) (i : ℕ) (w : List ℕ) (next : ℕ) (d' : List ℕ) : Type 0 where
   pub end : next ≡ placedEnd d i w
   pub buffer : d' ≡ placed d i w
-
--- a buffer, and the index after what was written to it
-pub record Filled : Type 0 where
-  pub buffer : List ℕ
-  pub next : ℕ
-
--- d with each of the pieces that fits after those before it, from index i on
-unfoldable pub fill : List ℕ → ℕ → List (List ℕ) → Filled
-fill d i [] = record { buffer = d; next = i }
-fill d i (w ∷ ws) = fill (placed d i w) (placedEnd d i w) ws
-
--- what a function that writes pieces so returns and leaves
-pub record Fills (d : List ℕ) (i : ℕ) (ws : List (List ℕ)) (next : ℕ) (d' : List ℕ) : Type 0 where
-  pub is : _≡_ {A = Filled} (record { buffer = d'; next = next }) (fill d i ws)

@@ -6,7 +6,7 @@ use mathlib.Core.Bool.{cond}
 use mathlib.Core.List.{List, _++_}
 use mathlib.Core.Option.{Option, some, none, Option·map}
 use lib.Dec.{leb, ltb}
-use lib.ListN.{length, getD, drop}
+use lib.ListN.{length, drop}
 use Rattle.text.specs.Errors.{failureOf}
 use Rattle.text.specs.Result.{Result, ok, error, mapResult, needPlace, overwritten}
 use Rattle.text.specs.Utf8.{partsFrom, firstIllFormed, replacedIn, unitsOf, lossy}
@@ -19,15 +19,10 @@ use Rattle.text.specs.declared.utf8.LossyLength.{LossyLength}
 use Rattle.text.specs.declared.utf8.LossyLength.the-variants as measure
 use Rattle.text.specs.declared.utf8.LossyReply.{LossyReply}
 use Rattle.text.specs.declared.utf8.LossyReply.the-variants as lossyReply
-use Rattle.text.specs.declared.utf8.Units.{Units}
 use Rattle.text.specs.declared.utf16.TextLength.{TextLength}
 use Rattle.text.specs.declared.utf16.TextLength.the-variants as textLength
 use Rattle.text.specs.declared.utf16.TextReply.{TextReply}
 use Rattle.text.specs.declared.utf16.TextReply.the-variants as textReply
-
--- at most two code units by value; what is not used is 0
-abbrev pub unitsFrom : List ℕ → Units
-unitsFrom us = record { count = length us; first = getD us 0 0; second = getD us 1 0 }
 
 -- where a text is ill-formed
 abbrev pub validityPlace : Validity → Option ℕ

@@ -3,7 +3,7 @@
 use Prim.Native.Nat.{ℕ, zero, suc, _+_, _-_, _*_, _%_, _≤_, _<_, max}
 use mathlib.Core.Path.{_≡_}
 use mathlib.Core.Bool.{Bool, true, false, cond, _&&_}
-use mathlib.Core.List.{List, [], _∷_, _++_, map}
+use mathlib.Core.List.{List, [], _∷_, _++_}
 use mathlib.Core.Option.{Option, some, none, Option·map}
 use lib.Dec.{leb, ltb, eqb}
 use lib.ListN.{length, getD}
@@ -160,7 +160,3 @@ unitsOf s = Option·map utf16s (scalars8 s)
 -- the repaired text, as `String::from_utf8_lossy` has it
 abbrev pub lossy : List ℕ → List ℕ
 lossy s = utf8s (repaired (partsFrom s 0))
-
--- its sequences one by one
-abbrev pub lossySequences : List ℕ → List (List ℕ)
-lossySequences s = map utf8 (repaired (partsFrom s 0))

@@ -2,12 +2,13 @@
 ghost use mathlib.Core.Path.{_≡_};
 ghost use mathlib.Core.Option.{some};
 ghost use Prim.Native.Nat.{_+_, _≤_, _<_};
+ghost use lib.Dec.{leb};
 ghost use lib.ListN.{length, getD};
-ghost use Rattle.text.specs.Buffer.{same, put, Places, Fills};
-ghost use Rattle.text.specs.Replies.{unitsFrom, validityPlace, CountsUnits, lossyLength, WritesLossy};
+ghost use Rattle.text.specs.Buffer.{same, put, Puts, Places};
+ghost use Rattle.text.specs.Replies.{validityPlace, CountsUnits, lossyLength, WritesLossy};
 ghost use Rattle.text.specs.Stages.{stepHas, wholeLength};
-ghost use Rattle.text.specs.Unicode.{within, Below, isScalar, utf8, utf16, encoded};
-ghost use Rattle.text.specs.Utf8.{sequenceLength, secondRange, hasIn, stepAt, partsFrom, firstIllFormed, lossy, lossySequences};
+ghost use Rattle.text.specs.Unicode.{within, Below, isScalar, utf8, encoded};
+ghost use Rattle.text.specs.Utf8.{sequenceLength, secondRange, hasIn, stepAt, partsFrom, firstIllFormed, lossy};
 
 // The range of a byte, both ends in it.
 pub struct Range {
@@ -220,15 +221,15 @@ fn highest(text: &[u8]) -> u8
 }
 
 // Whether a number is a Unicode scalar value.
-pub fn is_scalar(value: u32) -> bool
+pub(crate) fn is_scalar(value: u32) -> bool
     ensures { λ r. ⌜ r ≡ isScalar value ⌝ }
 {
     value < 0xD800 || 0xDFFF < value && value < 0x110000
 }
 
-// The number of bytes of a scalar value.
+// The number of bytes of a scalar value, 0 for a number that is none.
 pub fn utf8_len(value: u32) -> usize
-    ensures { λ r. ⌜ (r ≡ length (utf8 value)) × (r ≤ 4) ⌝ }
+    ensures { λ r. ⌜ (r ≡ length (encoded utf8 value)) × (r ≤ 4) ⌝ }
 {
     if value < 0x80 {
         return 1;
@@ -236,43 +237,13 @@ pub fn utf8_len(value: u32) -> usize
     if value < 0x800 {
         return 2;
     }
+    if !is_scalar(value) {
+        return 0;
+    }
     if value < 0x10000 {
         return 3;
     }
     4
-}
-
-// At most two code units; what is not used is 0.
-pub struct Units {
-    pub count: usize,
-    pub first: u16,
-    pub second: u16,
-}
-
-// The code units of a scalar value, none for a number that is no scalar value.
-pub fn utf16_units(value: u32) -> Units
-    ensures { λ r. ⌜ r ≡ unitsFrom (encoded utf16 value) ⌝ }
-{
-    if !is_scalar(value) {
-        return Units {
-            count: 0,
-            first: 0,
-            second: 0,
-        };
-    }
-    if value < 0x10000 {
-        return Units {
-            count: 1,
-            first: value as u16,
-            second: 0,
-        };
-    }
-    let v = value - 0x10000;
-    Units {
-        count: 2,
-        first: (0xD800 + v / 1024) as u16,
-        second: (0xDC00 + v % 1024) as u16,
-    }
 }
 
 // Writes the bytes of a scalar value into out from index at where they fit, and returns the index after them. A number that is no
@@ -280,10 +251,10 @@ pub fn utf16_units(value: u32) -> Units
 pub fn put_scalar(value: u32, out: &mut [u8], at: usize) -> usize
     ensures { λ r. ⌜ Places (now (out .entry)) at (encoded utf8 value) r (now (out .exit)) ⌝ }
 {
-    if !is_scalar(value) {
+    let n = utf8_len(value);
+    if n == 0 {
         return at;
     }
-    let n = utf8_len(value);
     if out.len() < n {
         return at;
     }
@@ -424,21 +395,48 @@ fn repaired_length(s: &[u8], at: usize) -> LossyLength
     }
 }
 
-// Writes the repaired text of s into out from index at on, sequence by sequence, each that fits after those before it, and returns the
-// index after the last. Where the text fits as a whole, that is the text.
+// Whether the repaired text of s has at most so many bytes. A byte gives three at most, so that with plenty of room nothing is measured.
+fn lossy_fits(s: &[u8], room: usize) -> bool
+    ensures { λ r. ⌜ r ≡ leb (length (lossy (now (s .entry)))) room ⌝ }
+{
+    if s.len() <= room / 3 {
+        return true;
+    }
+    match lossy_length(s) {
+        LossyLength::Length { bytes, replaced: _ } => bytes <= room,
+        LossyLength::TooLong => false,
+    }
+}
+
+// Writes the repaired text of s into out from index at on where all of it fits, and returns the index after it. One that does not fit
+// writes nothing.
 pub fn put_lossy(s: &[u8], out: &mut [u8], at: usize) -> usize
-    ensures { λ r. ⌜ Fills (now (out .entry)) at (lossySequences (now (s .entry))) r (now (out .exit)) ⌝ }
+    ensures { λ r. ⌜ Places (now (out .entry)) at (lossy (now (s .entry))) r (now (out .exit)) ⌝ }
+{
+    if out.len() < at {
+        return at;
+    }
+    if !lossy_fits(s, out.len() - at) {
+        return at;
+    }
+    put_repaired(s, out, at)
+}
+
+// The same where it fits.
+fn put_repaired(s: &[u8], out: &mut [u8], at: usize) -> usize
+    requires { ⌜ at + length (lossy (now s)) ≤ length (now out) ⌝ }
+    ensures { λ r. ⌜ Puts (now (out .entry)) at (lossy (now (s .entry))) r (now (out .exit)) ⌝ }
 {
     let mut i: usize = 0;
     let mut o = at;
     loop {
         match step_at(s, i) {
             Step::Scalar { value, next } => {
-                o = put_scalar(value, out, o);
+                o = put_bytes(value, out, o);
                 i = next;
             }
             Step::IllFormed { next } => {
-                o = put_scalar(0xFFFD, out, o);
+                o = put_bytes(0xFFFD, out, o);
                 i = next;
             }
             Step::End => {
@@ -480,7 +478,7 @@ pub fn write_lossy(s: &[u8], out: &mut [u8]) -> LossyReply
                 put_all(s, out);
                 return LossyReply::Written { bytes, replaced };
             }
-            put_lossy(s, out, 0);
+            put_repaired(s, out, 0);
             LossyReply::Written { bytes, replaced }
         }
         LossyLength::TooLong => LossyReply::TooShort(0xFFFF_FFFF_FFFF_FFFF),

@@ -11,12 +11,10 @@ use lib.Dec.{eqb, ltb}
 use lib.ListN.{length, getD, set, replicate, length-append, length-set, length-replicate, replicate-append-replicate}
 use lib.Seq.{set-comm}
 use Rattle.text.specs.Buffer.{put}
-use Rattle.text.specs.Replies.{unitsFrom}
-use Rattle.text.specs.Unicode.{Below, isScalar, utf16, utf16s, encoded}
+use Rattle.text.specs.Unicode.{Below, isScalar, utf16, utf16s}
 use Rattle.text.specs.Utf8.{stepAt, partsFrom, scalarsOf, scalars8}
 use Rattle.text.specs.declared.utf8.Step.{Step}
 use Rattle.text.specs.declared.utf8.Step.the-variants.{Scalar, IllFormed, End}
-use Rattle.text.specs.declared.utf8.Units.{Units}
 use Rattle.text.proofs.BufferLaws.{put-none, put-one}
 use Rattle.text.proofs.LeadLaws.{step-1}
 use Rattle.text.proofs.PartLaws.{step-reads, step-end, parts-scalar, parts-ill-formed, parts-end, left, scalar-less}

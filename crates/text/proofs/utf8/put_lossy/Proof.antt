@@ -1,18 +1,19 @@
--- `text::utf8::put_lossy` meets its contract: the laws of its loop answer each need.
+-- `text::utf8::put_lossy` meets its contract.
 -- Assumes nothing.
-use Rattle.text.proofs.PartLaws.{left, less}
 use borrow.Author.Needs.{needs}
-use Rattle.text.proofs.LossyLaws.{Writing, write-start, write-scalar, write-replacement, write-last}
+use Rattle.text.proofs.BufferLaws.{placed-past}
+use Rattle.text.proofs.LossyLaws.{lossy-kept, lossy-inside, lossy-placed}
 use Rattle.text.proofs.utf8.put_lossy.Statement.{statement}
 use Rattle.text.proofs.utf8.put_lossy.Tie as tie
-
-abbrev Inv-loop : tie.InvT-loop
-Inv-loop s out₀ at i₀ o₀ out i o = Writing s out₀ at out i o
-
-abbrev μ-loop : tie.MeasureT-loop
-μ-loop s out₀ at i₀ o₀ out i o = left s i
 
 pub put-lossy-spec : {M : Type 1} → statement M
 put-lossy-spec =
     tie.close
-    (tie.spec Inv-loop μ-loop (λ c. search (write-start, needs)) (λ c κs. search needs) (λ c. search needs) (λ c κs. search needs) (λ c. search less) (λ c. search (write-scalar, needs)) (λ c. search needs) (λ c κs. search needs) (λ c. search less) (λ c. search (write-replacement, needs)) (λ c. search needs) (λ c. search needs) (λ c. search (write-last, needs)))
+    (tie.spec
+    (λ c. search (placed-past, needs))
+    (λ c. search needs)
+    (λ c κs. search needs)
+    (λ c. search (lossy-kept, needs))
+    (λ c κs. search (lossy-inside, needs))
+    (λ c. search needs)
+    (λ c. search (lossy-placed, needs)))

@@ -1,11 +1,24 @@
 -- `text::utf8::put_scalar` meets its contract.
 -- Assumes nothing.
-use Rattle.text.proofs.ByteLaws.{put-none-is, put-short, put-past, put-done, top-is}
 use borrow.Author.Needs.{needs}
+use Rattle.text.proofs.ByteLaws.{put-none, put-short, put-past, top-is, put-room, put-done}
 use Rattle.text.proofs.utf8.put_scalar.Statement.{statement}
 use Rattle.text.proofs.utf8.put_scalar.Tie as tie
+
+put-bytes-requires : tie.Need-put-bytes-requires
+put-bytes-requires c κs =
+    let e = c .before .before .before in
+    (top-is _ (e .if1 .left) (e .before .utf8-len .ensures), search (put-room, needs))
 
 pub put-scalar-spec : {M : Type 1} → statement M
 put-scalar-spec =
     tie.close
-    (tie.spec (λ c κs. search needs) (λ c. search (put-none-is, needs)) (λ c κs. search needs) (λ c. search (put-short, needs)) (λ c. search needs) (λ c. search (put-past, needs)) (λ c κs. search (top-is, needs)) (λ c. search needs) (λ c. search (put-done, needs)))
+    (tie.spec
+    (λ c κs. search needs)
+    (λ c. search (put-none, needs))
+    (λ c. search (put-short, needs))
+    (λ c. search needs)
+    (λ c. search (put-past, needs))
+    put-bytes-requires
+    (λ c. search needs)
+    (λ c. search (put-done, needs)))
