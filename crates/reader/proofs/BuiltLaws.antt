@@ -1,4 +1,4 @@
--- The blob that the writer builds for n objects is read as n string objects, each with one property: `any`, the value that bears its number.
+-- The blob that the writer builds for n objects is read as n string objects, each with one property: `any`, a heap value of its id less one.
 -- Assumes nothing.
 use mathlib.Core.Path.{_≡_, sym, ap, _∙_}
 use mathlib.Core.Bool.{true, false}

@@ -11,10 +11,11 @@ use Rattle.text.specs.Result.{Result, ok, check, _>>_}
 use Rattle.reader.specs.Wire.{u32At}
 use Rattle.reader.specs.declared.blocks.Cursor.{Cursor}
 
--- the end of the block at i, and where the next one may begin
+-- the end of the block at i: its count and "that many triples"
 abbrev pub blockEnd : ℕ → List ℕ → ℕ → ℕ
 blockEnd size b i = i + 4 + size * u32At b i
 
+-- "then a step up to a multiple of 8 counted from the blob's start": where the block after that at i may begin
 unfoldable pub nextBlock : ℕ → List ℕ → ℕ → ℕ
 nextBlock size b i = (blockEnd size b i + 7) / 8 * 8
 
@@ -30,9 +31,11 @@ blocksCount zero size b i e n = ok n
 blocksCount (suc f) size b i e n =
     cond (leb (i + 4) e) (check 7 (leb (blockEnd size b i) e) i >> blocksCount f size b (nextBlock size b i) e (n + 1)) (ok n)
 
+-- 7 for the bytes from i up to e, with n blocks before: how many blocks there are, or the first that is not whole
 unfoldable pub blocksFrom : ℕ → List ℕ → ℕ → ℕ → ℕ → Result ℕ
 blocksFrom size b i e n = blocksCount (e - i) size b i e n
 
+-- 7: "Is every property block whole", for the region from i up to e
 abbrev pub blocks : ℕ → List ℕ → ℕ → ℕ → Result ℕ
 blocks size b i e = blocksFrom size b i e 0
 

@@ -43,10 +43,11 @@ metadataStrings blob directory kinds words metadata = do
 
 -- ---- the second road
 
--- "any", and the class "string"
+-- "the property named "any""
 abbrev pub anyName : List ℕ
 anyName = 0x61 ∷ 0x6E ∷ 0x79 ∷ []
 
+-- 16: the class "string"
 abbrev pub stringName : List ℕ
 stringName = 0x73 ∷ 0x74 ∷ 0x72 ∷ 0x69 ∷ 0x6E ∷ 0x67 ∷ []
 

@@ -34,24 +34,30 @@ use Rattle.reader.specs.declared.records.Triple.{Triple}
 
 -- ---- one object
 
+-- where an object's properties are: the region, and the id of the block in it
 abbrev pub blockOf : ObjectRecord → BlockId
 blockOf r = record { region = regionOf r; id = blockIdOf r }
 
+-- the row of the object listing for a record, its block and the number of its properties
 abbrev pub rowFrom : ObjectRecord → BlockId → ℕ → ObjectRow
 rowFrom r k n = record { «class_id» = r .«class_id»; region = k .region; «block_id» = k .id; «property_count» = n }
 
+-- the cursor of region g, "0 saved, 1 normal"
 abbrev pub cursorOf : Cursors → ℕ → Cursor
 cursorOf cs g = cond (eqb g 0) (cs .saveobj) (cs .normalobj)
 
+-- the cursors with that of region g moved to c
 abbrev pub withCursor : Cursors → ℕ → Cursor → Cursors
 withCursor cs g c = cond (eqb g 0) (record { saveobj = c; normalobj = cs .normalobj }) (record { saveobj = cs .saveobj; normalobj = c })
 
+-- before any block is looked for, each cursor stands at block 0 of its region
 abbrev pub firstBlocks : FileWrapper → Cursors
 firstBlocks w = record {
   saveobj = record { block = 0; at = w .offsets .o1 };
   normalobj = record { block = 0; at = w .offsets .o3 };
 }
 
+-- each cursor stands at the block of its region that it names
 pub record AreCursors (b : List ℕ) (w : FileWrapper) (cs : Cursors) : Type 0 where
   pub saveobj : IsCursor 12 b (w .offsets .o1) (cs .saveobj)
   pub normalobj : IsCursor 12 b (w .offsets .o3) (cs .normalobj)
@@ -68,6 +74,7 @@ pub record ToObject (b : List ℕ) (w : FileWrapper) (cs : Cursors) (id : ℕ) :
   pub cursors : AreCursors b w cs
   pub below : id < w .records
 
+-- an object's row, or the refusal
 abbrev pub objectReplyOf : ObjectReply → Result ObjectRow
 objectReplyOf (object.Object row at cs) = ok row
 objectReplyOf (object.Error e) = error (failureOf e)
@@ -82,6 +89,7 @@ abbrev pub Stands : List ℕ → FileWrapper → ObjectRecord → ObjectReply �
 Stands b w r (object.Object row at cs) = IsBlock b w r (row .«property_count») at × AreCursors b w cs
 Stands b w r (object.Error e) = Unit {0}
 
+-- what reading an object by its record replies, and where its block stands
 pub record ReadsObject (b : List ℕ) (w : FileWrapper) (r : ObjectRecord) (x : ObjectReply) : Type 0 where
   pub reply : objectReplyOf x ≡ recordRow b w r
   pub stands : Stands b w r x
@@ -92,9 +100,11 @@ pub record ReadsObject (b : List ℕ) (w : FileWrapper) (r : ObjectRecord) (x : 
 abbrev pub checkObjects : List ℕ → FileWrapper → ℕ → ℕ → Result (Unit {0})
 checkObjects b w id n = objectsFrom b w id n >> ok tt
 
+-- the rows of a blob whose listing is accepted
 abbrev pub allObjects : List ℕ → List ObjectRow
 allObjects b = valuesOf (objectRows b)
 
+-- a row that was not written, and what stands for a row where there is none
 abbrev pub noRow : ObjectRow
 noRow = record { «class_id» = 0; region = 0; «block_id» = 0; «property_count» = 0 }
 
@@ -102,13 +112,16 @@ noRow = record { «class_id» = 0; region = 0; «block_id» = 0; «property_coun
 abbrev pub blankRows : List ObjectRow
 blankRows = noRow ∷ noRow ∷ noRow ∷ noRow ∷ noRow ∷ noRow ∷ noRow ∷ noRow ∷ []
 
+-- the listing by value: its reply and its rows
 abbrev pub objectList : ObjectsReply → List ObjectRow → ObjectList
 objectList r rows = record { reply = r; rows = rows }
 
+-- how many objects a listing has, or the refusal
 abbrev pub listingReplyOf : Listing → Result ℕ
 listingReplyOf (listing.Objects w n cs row) = ok n
 listingReplyOf (listing.Refused e) = error (failureOf e)
 
+-- the row of the object that was read last
 abbrev pub lastRow : Listing → ObjectRow
 lastRow (listing.Objects w n cs row) = row
 lastRow (listing.Refused e) = noRow
@@ -125,6 +138,7 @@ pub record Listable (b : List ℕ) (w : FileWrapper) (n : ℕ) (cs : Cursors) : 
   pub count : n ≡ w .records - 1
   pub rows : objectsFrom b w 1 n ≡ ok (allObjects b)
 
+-- what a listing carries from one object to the next belongs to the blob; a refused one carries nothing
 abbrev pub IsListing : List ℕ → Listing → Type 0
 IsListing b (listing.Objects w n cs row) = Listable b w n cs
 IsListing b (listing.Refused e) = Unit {0}
@@ -153,6 +167,7 @@ pub record TriplesIn (b : List ℕ) (i n : ℕ) : Type 0 where
   pub inside : i + 12 * n ≤ length b
   pub most : length b ≤ 16777216
 
+-- the triples that a reply names by their first byte and number, or the refusal
 abbrev pub triplesReplyOf : List ℕ → TriplesReply → Result (List Triple)
 triplesReplyOf b (triples.Triples w at n) = ok (triplesFrom b at n)
 triplesReplyOf b (triples.Error e) = error (failureOf e)
@@ -163,6 +178,7 @@ pub record PassedTriples (b : List ℕ) (w : FileWrapper) (i n : ℕ) : Type 0 w
   pub triples : TriplesIn b i n
   pub checks : checkTriples w (triplesFrom b i n) ≡ ok tt
 
+-- the triples that a reply names have passed their checks; a refusal names none
 abbrev pub Triples : List ℕ → TriplesReply → Type 0
 Triples b (triples.Triples w at n) = PassedTriples b w at n
 Triples b (triples.Error e) = Unit {0}

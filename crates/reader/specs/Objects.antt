@@ -16,17 +16,19 @@ use Rattle.reader.specs.declared.objects.ObjectRow.{ObjectRow}
 use Rattle.reader.specs.declared.records.ObjectRecord.{ObjectRecord}
 use Rattle.reader.specs.declared.records.Triple.{Triple}
 
--- "Object: saved id if not 0, else normal id": the region of an object's property block, "0 saved, 1 normal", and the block's id there
+-- "Object: saved id if not 0, else normal id": the region of an object's property block, "0 saved, 1 normal"
 abbrev pub regionOf : ObjectRecord → ℕ
 regionOf r = cond (eqb (r .«saveobj_id») 0) 1 0
 
+-- the id of the block there: "saved id if not 0, else normal id"
 abbrev pub blockIdOf : ObjectRecord → ℕ
 blockIdOf r = cond (eqb (r .«saveobj_id») 0) (r .«normalobj_id») (r .«saveobj_id»)
 
--- "saved property blocks in 1 to 2", "normal property blocks in 3 to 4": where a region begins, and how many blocks it has
+-- "saved property blocks in 1 to 2", "normal property blocks in 3 to 4": where a region begins
 abbrev pub regionStart : FileWrapper → ℕ → ℕ
 regionStart w g = cond (eqb g 0) (w .offsets .o1) (w .offsets .o3)
 
+-- 10: "the blocks of its region", as check 7 counted them
 abbrev pub regionBlocks : FileWrapper → ℕ → ℕ
 regionBlocks w g = cond (eqb g 0) (w .«saveobj_blocks») (w .«normalobj_blocks»)
 
@@ -51,12 +53,13 @@ objectRow b w r = record {
   «property_count» = propertyCount b w r;
 }
 
--- an object by its record, and by its id, once the blob is open
+-- the row of an object by its record, once the blob is open: 10
 unfoldable pub recordRow : List ℕ → FileWrapper → ObjectRecord → Result ObjectRow
 recordRow b w r = do
   checkBlock w r
   ok (objectRow b w r)
 
+-- the same by the object's id
 abbrev pub objectOf : List ℕ → FileWrapper → ℕ → Result ObjectRow
 objectOf b w id = recordRow b w (objectRecord b w id)
 
@@ -90,6 +93,7 @@ checkTriple w t = do
   check 12 (leb (t .«field_type») 2) (t .«field_type»)
   cond (eqb (t .«field_type») 0) (checkName w (t .value)) (ok tt)
 
+-- "then for each triple" those checks, in the order of the block
 unfoldable pub checkTriples : FileWrapper → List Triple → Result (Unit {0})
 checkTriples w [] = ok tt
 checkTriples w (t ∷ ts) = checkTriple w t >> checkTriples w ts

@@ -31,6 +31,7 @@ opaqueMetadata w = do
   check 21 (eqb (length w) (2 + dimensions w + ids + 1)) (length w)
   ok (record { «first_id» = 2 + dimensions w; ids = ids; «class_id» = getD w (2 + dimensions w + ids) 0 })
 
+-- the numbers that opaque metadata replies with, or the refusal
 abbrev pub opaqueReplyOf : OpaqueReply → Result OpaqueMetadata
 opaqueReplyOf (reply.Parsed m) = ok m
 opaqueReplyOf (reply.Error e) = error (failureOf e)

@@ -21,6 +21,7 @@ declaredNames b = u32At b 4
 abbrev pub offset : List ℕ → ℕ → ℕ
 offset b k = u32At b (8 + 4 * k)
 
+-- the "eight region offsets" of 3, as opening answers them
 abbrev pub offsets : List ℕ → Offsets
 offsets b = record {
   o0 = offset b 0;
@@ -64,6 +65,7 @@ regions b = do
   normal ← blocks 12 b (offset b 3) (offset b 4)
   ok (fileWrapper b saved normal)
 
+-- "Opening a blob": 1 to 5, then 6 and 7
 unfoldable pub opened : List ℕ → Result FileWrapper
 opened b = do
   check 1 (leb (length b) 16777216) (length b)

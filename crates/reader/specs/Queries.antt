@@ -24,6 +24,7 @@ intoOutput m room = do
 abbrev pub checkName : FileWrapper → ℕ → Result (Unit {0})
 checkName w i = check 11 (leb i (w .names)) i
 
+-- the text of a name index in an opened blob, whose heap ends at offset 0
 abbrev pub shown : List ℕ → FileWrapper → ℕ → List ℕ
 shown b w i = shownName b (w .offsets .o0) i
 

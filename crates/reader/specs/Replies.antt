@@ -27,10 +27,12 @@ use Rattle.reader.specs.declared.properties.PropertiesReply.{PropertiesR
 use Rattle.reader.specs.declared.properties.PropertiesReply.the-variants as properties
 use Rattle.reader.specs.declared.records.Triple.{Triple}
 
+-- what opening answers, or the refusal
 abbrev pub parseReplyOf : ParseReply → Result FileWrapper
 parseReplyOf (parse.Parsed w) = ok w
 parseReplyOf (parse.Error e) = error (failureOf e)
 
+-- a check that held, or the refusal
 abbrev pub checkedOf : Checked → Result (Unit {0})
 checkedOf checked.Passed = ok tt
 checkedOf (checked.Failed e) = error (failureOf e)

@@ -52,6 +52,7 @@ checkDims payload n = do
   checkEach 25 (λ i. ltb (dimsProduct payload (suc i)) (2 ^ 64)) 0 n
   ok (dimsProduct payload n)
 
+-- 22 to 26: what stands before the lengths
 unfoldable pub checkHeader : List ℕ → Result Header
 checkHeader payload = do
   -- 22 "From 2 to 2,097,152 words?"

@@ -20,10 +20,12 @@ use Rattle.reader.specs.Saveobj.{Header, unitsBefore, storedUnits, store
 
 -- ---- replies
 
+-- a number, or the refusal
 abbrev pub numberOf : NumberReply → Result ℕ
 numberOf (number.Number n) = ok n
 numberOf (number.Error e) = error (failureOf e)
 
+-- where the lengths begin and the number of strings, or the refusal
 abbrev pub headerOf : HeaderReply → Result Header
 headerOf (header.Header base n) = ok (record { base = base; strings = n })
 headerOf (header.Error e) = error (failureOf e)
@@ -33,9 +35,11 @@ pub record Counts : Type 0 where
   pub bytes : ℕ
   pub strings : ℕ
 
+-- those of strings
 abbrev pub countsOf : List (List ℕ) → Counts
 countsOf ss = record { bytes = length (joined ss); strings = length ss }
 
+-- what decoding replies, or the refusal
 abbrev pub stringsReplyOf : StringsReply → Result Counts
 stringsReplyOf (strings.Strings b n) = ok (record { bytes = b; strings = n })
 stringsReplyOf (strings.Error e) = error (failureOf e)

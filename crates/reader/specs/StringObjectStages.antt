@@ -20,6 +20,7 @@ abbrev pub chosenOf : List ℕ → FileWrapper → List Triple → Option Triple
 chosenOf blob w [] = none
 chosenOf blob w (t ∷ ts) = some (getD (t ∷ ts) (chosenIndex blob w (t ∷ ts)) t)
 
+-- the chosen property, that there is none, or the refusal
 abbrev pub chosenReplyOf : ChosenReply → Result (Option Triple)
 chosenReplyOf (chosen.Property t) = ok (some t)
 chosenReplyOf chosen.NoProperties = ok none

@@ -24,6 +24,7 @@ checkCounted s = do
   checkDirectory (s .directory) (s .kinds) (length (s .words))
   check 33 (isCanonical s) 0
 
+-- "13, 33", with which every edit begins
 unfoldable pub checkStore : Store → Result (Unit {0})
 checkStore s = do
   checkCounts s

@@ -58,6 +58,7 @@ abbrev pub listAfter : List Array → Result (List Array) → List Array
 listAfter xs (ok ys) = ys
 listAfter xs (error e) = xs
 
+-- the edited list, begun with the arrays xs: what it is after the edits, and the reply of each
 unfoldable pub modelFrom : Lengths → List Array → List Edit → Ended (List Array)
 modelFrom l xs [] = record { last = xs; replies = [] }
 modelFrom l xs (e ∷ es) = record {
@@ -71,10 +72,12 @@ model l es = modelFrom l [] es
 
 -- ---- the execution: "each call gets the buffers and counts as the last one left them"
 
+-- what an edit comes to on a store, by the definitions that the calls' contracts cite
 unfoldable pub call : Store → Edit → Result (List Array)
 call s (append dims text spans) = appended s dims text spans
 call s (replace id dims text spans) = replaced s id dims text spans
 
+-- the edits one after another: the store that is left, and the reply of each
 unfoldable pub execute : Store → List Edit → Ended Store
 execute s [] = record { last = s; replies = [] }
 execute s (e ∷ es) = record {

@@ -13,6 +13,7 @@ use Rattle.store.specs.declared.edits.Edited.{Edited}
 use Rattle.store.specs.Store.{Store, storeOf}
 use Rattle.store.specs.Edits.{replyOf, storeAfter}
 
+-- done, or the refusal
 abbrev pub editReplyOf : EditReply → Result (Unit {0})
 editReplyOf edit.Done = ok tt
 editReplyOf (edit.Error e) = error (failureOf e)

@@ -53,6 +53,7 @@ pub record CountsInside (s : Store) : Type 0 where
 
 -- ---- 34
 
+-- the lengths of four buffers
 abbrev pub lengths : ℕ → ℕ → ℕ → ℕ → Lengths
 lengths blob directory kinds words = record { blob = blob; directory = directory; kinds = kinds; words = words }
 
@@ -97,6 +98,7 @@ pub record AppendChecked (s : Store) (dims text spans : List ℕ) (words : ℕ) 
   pub array : ArrayChecked dims text spans words
   pub few : s .objects + 1 ≤ 349522
 
+-- the words of the payload, with what is then known; or the refusal
 abbrev pub ChecksAppend : Store → List ℕ → List ℕ → List ℕ → LengthReply → Type 0
 ChecksAppend s dims text spans (length-reply.Length n) = AppendChecked s dims text spans n
 ChecksAppend s dims text spans (length-reply.Error e) = checkAppend s dims text spans ≡ error (failureOf e)
@@ -144,6 +146,7 @@ pub record ReplaceChecked (s : Store) (id : ℕ) (dims text spans : List ℕ) (w
   pub most : id ≤ s .objects
   pub array : ArrayChecked dims text spans words
 
+-- the words of the payload, with what is then known; or the refusal
 abbrev pub ChecksReplace : Store → ℕ → List ℕ → List ℕ → List ℕ → LengthReply → Type 0
 ChecksReplace s id dims text spans (length-reply.Length n) = ReplaceChecked s id dims text spans n
 ChecksReplace s id dims text spans (length-reply.Error e) = checkReplace s id dims text spans ≡ error (failureOf e)

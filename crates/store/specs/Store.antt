@@ -28,6 +28,7 @@ pub record Lengths : Type 0 where
   pub kinds : ℕ
   pub words : ℕ
 
+-- those of a store's buffers, counted or not
 abbrev pub lengthsOf : Store → Lengths
 lengthsOf s = record { blob = length (s .blob); directory = length (s .directory); kinds = length (s .kinds); words = length (s .words) }
 
@@ -77,10 +78,12 @@ cells s = stringsFrom (s .words) (s .directory) 0 (s .objects)
 abbrev pub storedArrays : Store → List Array
 storedArrays s = map decodedArray (cells s)
 
+-- a test holds of every element
 abbrev pub every : {A : Type 0} → (A → Bool) → List A → Bool
 every f [] = true
 every f (x ∷ xs) = f x && every f xs
 
+-- the same counts and the same buffers
 abbrev pub sameStore : Store → Store → Bool
 sameStore s t =
     eqb (s .objects) (t .objects)

@@ -24,9 +24,11 @@ noArray = record { dims = []; strings = [] }
 abbrev pub stringUnits : List ℕ → List ℕ
 stringUnits s = Option·getD (unitsOf s) []
 
+-- "lengths in code units"
 abbrev pub unitCounts : List (List ℕ) → List ℕ
 unitCounts ss = map (λ s. length (stringUnits s)) ss
 
+-- the units of all strings, one after another
 abbrev pub allUnits : List (List ℕ) → List ℕ
 allUnits ss = flatMap stringUnits ss
 
@@ -72,10 +74,11 @@ encodePayload dims text spans room = do
   checkOutput (length (payload a)) room
   ok (payload a)
 
--- "payloads end to end from word 0": the payloads of arrays, and their spans from word o on
+-- "payloads end to end from word 0"
 unfoldable pub payloads : List Array → List ℕ
 payloads xs = flatMap payload xs
 
+-- "the directory their pairs": offset and length of each payload, where the first begins at word o
 unfoldable pub payloadSpans : ℕ → List Array → List ℕ
 payloadSpans o [] = []
 payloadSpans o (a ∷ xs) = o ∷ length (payload a) ∷ payloadSpans (o + length (payload a)) xs

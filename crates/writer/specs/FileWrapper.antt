@@ -14,6 +14,7 @@ use Rattle.writer.specs.declared.file_wrapper.Region.the-variants.{Saved
 abbrev pub u32Bytes : ℕ → List ℕ
 u32Bytes v = (v % 256) ∷ (v / 256 % 256) ∷ (v / 65536 % 256) ∷ (v / 16777216 % 256) ∷ []
 
+-- words one after another
 unfoldable pub u32s : List ℕ → List ℕ
 u32s vs = flatMap u32Bytes vs
 
@@ -43,6 +44,7 @@ unfoldable pub entriesFrom : Region → ℕ → ℕ → List ℕ
 entriesFrom r i zero = []
 entriesFrom r i (suc n) = u32s (entry r i) ++ entriesFrom r (suc i) n
 
+-- a region for n objects: what stands before them, and their entries
 unfoldable pub region : Region → ℕ → List ℕ
 region r n = u32s (zeroEntry r) ++ entriesFrom r 0 n
 

@@ -22,6 +22,7 @@ pub record Packer : Type 0 where
 abbrev pub fresh : List ℕ → Packer
 fresh d = record { words = d; carry = record { word = 0; count = 0 } }
 
+-- one unit more, into the words from index first on
 unfoldable pub push : ℕ → Packer → ℕ → Packer
 push first p u = record {
   words =
@@ -31,6 +32,7 @@ push first p u = record {
   carry = record { word = p .carry .word / 65536 + u * 281474976710656; count = p .carry .count + 1 };
 }
 
+-- units one after another
 unfoldable pub pushes : ℕ → Packer → List ℕ → Packer
 pushes first p [] = p
 pushes first p (u ∷ us) = pushes first (push first p u) us

@@ -20,10 +20,12 @@ lengthReplyOf (lengthReply.Error e) = error (failureOf e)
 abbrev pub measuredPayload : List ℕ → List ℕ → List ℕ → Result ℕ
 measuredPayload dims text spans = mapResult (λ a. length (payload a)) (arrayOf dims text spans)
 
+-- a call that writes the payload of an array to the start of words
 pub record EncodesPayload (dims text spans words : List ℕ) (r : LengthReply) (words' : List ℕ) : Type 0 where
   pub reply : lengthReplyOf r ≡ mapResult length (encodePayload dims text spans (length words))
   pub buffer : words' ≡ overwritten (λ w. w) (encodePayload dims text spans (length words)) words
 
+-- a call that writes the blob for n objects to the start of blob
 pub record BuildsMetadata (n : ℕ) (blob : List ℕ) (r : LengthReply) (blob' : List ℕ) : Type 0 where
   pub reply : lengthReplyOf r ≡ mapResult length (buildMetadata n (length blob))
   pub buffer : blob' ≡ overwritten (λ b. b) (buildMetadata n (length blob)) blob

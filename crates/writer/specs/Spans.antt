@@ -9,9 +9,11 @@ use lib.ListN.{length, getD, take, drop}
 use Rattle.text.specs.Result.{Result, ok, check, foldRange, _>>_, _>>=_}
 use Rattle.text.specs.Utf8.{unitsOf}
 
+-- "pairs of offset and length": the first number of pair i
 abbrev pub offsetAt : List ℕ → ℕ → ℕ
 offsetAt spans i = getD spans (2 * i) 0
 
+-- "pairs of offset and length": the second number of pair i
 abbrev pub lengthAt : List ℕ → ℕ → ℕ
 lengthAt spans i = getD spans (2 * i + 1) 0
 
@@ -32,6 +34,7 @@ stringsFrom text spans i (suc n) = stringAt text spans i ∷ stringsFrom text sp
 abbrev pub stringsIn : List ℕ → List ℕ → List (List ℕ)
 stringsIn text spans = stringsFrom text spans 0 (length spans / 2)
 
+-- there is a value
 abbrev pub isSome : {A : Type 0} → Option A → Bool
 isSome (some a) = true
 isSome none = false

@@ -23,10 +23,12 @@ abbrev pub stringEnd : ℕ → StringMeasure → Result ℕ
 stringEnd i (string.Units e u) = ok e
 stringEnd i string.Bad = error (record { number = 30; place = i })
 
+-- a string that was measured has so many units
 abbrev pub HasUnits : List ℕ → StringMeasure → Type 0
 HasUnits s (string.Units e u) = u ≡ length (stringUnits s)
 HasUnits s string.Bad = Unit
 
+-- 30 for string i, where the span before it ends at `end`, and its units
 pub record MeasuresString (text spans : List ℕ) (i end : ℕ) (r : StringMeasure) : Type 0 where
   pub checked : stringEnd i r ≡ checkString text spans i end
   pub units : HasUnits (stringAt text spans i) r
@@ -35,6 +37,7 @@ pub record MeasuresString (text spans : List ℕ) (i end : ℕ) (r : StringMeasu
 unfoldable pub measuredStrings : List ℕ → List ℕ → ℕ → Result ℕ
 measuredStrings text spans n = foldRange (checkString text spans) 0 n 0 >> ok (length (allUnits (stringsFrom text spans 0 n)))
 
+-- the units that measuring found, or 30
 abbrev pub textMeasureOf : TextMeasure → Result ℕ
 textMeasureOf (strings.Units n) = ok n
 textMeasureOf (strings.Bad i) = error (record { number = 30; place = i })
