@@ -23,10 +23,11 @@ pub record Puts (d : List ℕ) (i : ℕ) (w : List ℕ) (next : ℕ) (d' : List 
   pub end : next ≡ i + length w
   pub buffer : d' ≡ put d i w
 
--- d with w from index i on where w fits, and else d; and the index after what was written
+-- d with w from index i on where w fits, and else d
 unfoldable pub placed : List ℕ → ℕ → List ℕ → List ℕ
 placed d i w = cond (leb (i + length w) (length d)) (put d i w) d
 
+-- the index after what was written: where w does not fit, i itself
 unfoldable pub placedEnd : List ℕ → ℕ → List ℕ → ℕ
 placedEnd d i w = cond (leb (i + length w) (length d)) (i + length w) i
 

@@ -5,6 +5,7 @@ use Rattle.text.specs.declared.error.Failure.{Failure}
 use Rattle.text.specs.declared.error.MatError.{MatError}
 use Rattle.text.specs.declared.error.MatError.the-variants.{BlobTooLong, BlobTooShort, OffsetOutOfBounds, NameHeapTooEarly, OffsetsDescending, TooFewNames, PropertyBlockTruncated, ObjectIdOutOfRange, ClassIdOutOfRange, PropertyBlockIdOutOfRange, NameIndexOutOfRange, UnknownFieldType, InvalidDirectory, CellNotFound, UnexpectedCellKind, NotStringObject, OpaqueMetadataSize, OpaqueMetadataMagic, OpaqueMetadataDimensionsTruncated, OpaqueMetadataProductOverflow, OpaqueMetadataSizeMismatch, PayloadSize, PayloadVersion, PayloadDimensionsTruncated, PayloadProductOverflow, PayloadLengthsTruncated, PayloadLengthSumOverflow, PayloadUnitsTruncated, UnpairedSurrogate, InvalidText, ShapeMismatch, LimitExceeded, NotCanonical, OutputTooShort}
 
+-- a check's number and its place
 abbrev at : ℕ → ℕ → Failure
 at n p = record { number = n; place = p }
 

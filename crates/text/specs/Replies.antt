@@ -29,10 +29,12 @@ abbrev pub validityPlace : Validity → Option ℕ
 validityPlace validity.WellFormed = none
 validityPlace (validity.IllFormed i) = some i
 
+-- how many code units a well-formed text has
 abbrev pub countUnits : UnitCount → Option ℕ
 countUnits (count.Units n) = some n
 countUnits (count.IllFormed i) = none
 
+-- where a text is ill-formed
 abbrev pub countPlace : UnitCount → Option ℕ
 countPlace (count.Units n) = none
 countPlace (count.IllFormed i) = some i
@@ -65,6 +67,7 @@ abbrev pub textReplyOf : TextReply → Result ℕ
 textReplyOf (textReply.Text n) = ok n
 textReplyOf (textReply.Error e) = error (failureOf e)
 
+-- a call that writes the text of code units to the start of text
 pub record DecodesUtf16 (us text : List ℕ) (r : TextReply) (text' : List ℕ) : Type 0 where
   pub reply : textReplyOf r ≡ mapResult length (decodeUtf16 us (length text))
   pub buffer : text' ≡ overwritten (λ t. t) (decodeUtf16 us (length text)) text

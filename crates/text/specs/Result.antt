@@ -8,6 +8,7 @@ use lib.Dec.{leb}
 use lib.ListN.{length, drop}
 use Rattle.text.specs.declared.error.Failure.{Failure}
 
+-- what a call comes to
 pub data Result (A : Type 0) : Type 0 where
   ok : A → Result A
   error : Failure → Result A
@@ -18,10 +19,12 @@ abbrev pub _>>=_ : {A B : Type 0} → Result A → (A → Result B) → Result B
 _>>=_ (ok a) f = f a
 _>>=_ (error e) f = error e
 
+-- the checks so far, and then others that do not need their value
 abbrev pub _>>_ : {A B : Type 0} → Result A → Result B → Result B
 _>>_ (ok a) m = m
 _>>_ (error e) m = error e
 
+-- the value read in another way; a refusal stays
 abbrev pub mapResult : {A B : Type 0} → (A → B) → Result A → Result B
 mapResult f (ok a) = ok (f a)
 mapResult f (error e) = error e

@@ -14,13 +14,15 @@ abbrev pub Below : ℕ → List ℕ → Type 0
 Below b [] = Unit
 Below b (x ∷ xs) = (x < b) × Below b xs
 
--- D71 to D74: surrogates
+-- D71, D72: high surrogates
 abbrev pub isHighSurrogate : ℕ → Bool
 isHighSurrogate u = within 0xD800 0xDBFF u
 
+-- D73, D74: low surrogates
 abbrev pub isLowSurrogate : ℕ → Bool
 isLowSurrogate u = within 0xDC00 0xDFFF u
 
+-- either of the two
 abbrev pub isSurrogate : ℕ → Bool
 isSurrogate u = within 0xD800 0xDFFF u
 
@@ -42,9 +44,11 @@ utf16 v =
     cond (ltb v 0x10000) (v ∷ [])
     ((0xD800 + (v - 0x10000) / 1024) ∷ (0xDC00 + (v - 0x10000) % 1024) ∷ [])
 
+-- the UTF-8 bytes of scalar values, one after another
 abbrev pub utf8s : List ℕ → List ℕ
 utf8s vs = flatMap utf8 vs
 
+-- the UTF-16 code units of scalar values, one after another
 abbrev pub utf16s : List ℕ → List ℕ
 utf16s vs = flatMap utf16 vs
 

@@ -21,6 +21,7 @@ pub record Row : Type 0 where
   pub second-low : ℕ
   pub second-high : ℕ
 
+-- a row by its numbers, in the table's order
 abbrev row : ℕ → ℕ → ℕ → ℕ → ℕ → Row
 row n a b c d = record { bytes = n; first-low = a; first-high = b; second-low = c; second-high = d }
 
@@ -117,11 +118,12 @@ before (Scalar v n) i rest = sequence v ∷ rest n
 before (IllFormed n) i rest = illFormed i ∷ rest n
 before End i rest = []
 
--- the parts of s from i on; the recursion counts down what is left of the length, which no law outside proofs/PartLaws.antt sees
+-- the parts of s from i on, k at most; the recursion counts down, which no law outside proofs/PartLaws.antt sees
 unfoldable pub partsCount : ℕ → List ℕ → ℕ → List Part
 partsCount zero s i = []
 partsCount (suc k) s i = before (stepAt s i) i (partsCount k s)
 
+-- the parts of s from i on
 unfoldable pub partsFrom : List ℕ → ℕ → List Part
 partsFrom s i = partsCount (length s - i) s i
 
