@@ -3,7 +3,7 @@
 use mathlib.Core.Path.{_≡_, refl, sym, ap, ap₂, _∙_}
 use mathlib.Core.Bool.{Bool, true, false, not, cond}
 use mathlib.Core.List.{List, [], _∷_, _++_, append-assoc, append-nil, flatMap}
-use Prim.Native.Nat.{ℕ, zero, suc, _+_, _-_, _/_, _%_, _^_, _≤_, _<_}
+use Prim.Native.Nat.{ℕ, zero, suc, _+_, _*_, _-_, _/_, _%_, _^_, _≤_, _<_}
 use native.Mathlib.Nat.{pow-suc}
 use native.Mathlib.Numerals.{add-one}
 use native.Mathlib.Omega.{arith}
@@ -13,14 +13,16 @@ use lib.ListN.{length, getD, take, drop, set, length-append, length-set, take-ap
 use lib.Seq.{length-take-le, take-all, take-suc, take-set-le, set-split, drop-at, append-snoc}
 use Rattle.text.specs.Buffer.{put, Puts}
 use Rattle.text.specs.Result.{ok, needPlace}
+use Rattle.text.specs.declared.error.MatError.{MatError}
 use Rattle.text.specs.declared.error.MatError.the-variants.{OutputTooShort}
 use Rattle.text.proofs.BufferLaws.{put-none, put-front}
 use Rattle.text.proofs.ByteLaws.{stores}
 use Rattle.text.proofs.TestLaws.{cond-both, within-yes, within-under, within-over}
 use Rattle.writer.proofs.FileWrapperLaws.{puts-then, puts-length}
 use Rattle.reader.specs.Lines.{isPlain, hexDigit, escape, escaped, digits, decimal, CountsDigits, numbered, lineText}
-use Rattle.reader.specs.Replies.{WritesText}
+use Rattle.reader.specs.Replies.{nameReplyOf, WritesText}
 use Rattle.reader.specs.declared.lines.LinePart.{LinePart}
+use Rattle.reader.specs.declared.lines.LinePart.the-variants as part
 use Rattle.reader.specs.declared.names.NameReply.{NameReply}
 use Rattle.reader.specs.declared.names.NameReply.the-variants as name
 
@@ -302,6 +304,50 @@ module _ (start end out : List ℕ) (v : ℕ) {n : ℕ} (s : CountsDigits v n) w
       text-written (numbered start v end) out (omega (arith, size))
       (puts-then (puts-then p q (omega arith)) w (omega (arith, length-append start (decimal v))))
 
+-- a text that fits is written
+module _ (t out : List ℕ) (h : length t ≤ length out) {r : NameReply} {out' : List ℕ} where
+  pub text-puts : {n : ℕ} → r ≡ name.Text n → WritesText (ok t) out r out' → Puts out 0 t n out'
+  text-puts {n} g w =
+      let f : leb (length t) (length out) ≡ true = le-leb (length t) (length out) h in
+      let e : nameReplyOf (name.Text n) ≡ ok (length t) = ap nameReplyOf (sym g) ∙ simp f at (w .reply) in
+      let z : n ≡ length t = cc in
+      record { end = omega arith; buffer = simp f at (w .buffer) ∙ sym (put-front out t) }
+
+  -- and never refused
+  pub text-never : {e : MatError} → r ≡ name.Error e → WritesText (ok t) out r out' → {n : ℕ} → Puts out 0 t n out'
+  text-never {e} g w =
+      let f : leb (length t) (length out) ≡ true = le-leb (length t) (length out) h in
+      let e : nameReplyOf (name.Error e) ≡ ok (length t) = ap nameReplyOf (sym g) ∙ simp f at (w .reply) in
+      let z : _≡_ {A = ℕ} 0 1 = cc in
+      absurd (omega arith)
+
 -- a part that is told by its variant
 pub part-is : {x p : LinePart} → x ≡ p → {out out' : List ℕ} {r : NameReply} → WritesText (ok (lineText p)) out r out' → WritesText (ok (lineText x)) out r out'
 part-is e t = rw e t
+
+-- ---- the most bytes that a text needs
+
+escape-most : (b : ℕ) → length (escape b) ≤ 3
+unfolding escape
+escape-most b =
+    cond-both (λ (r : List ℕ). length r ≤ 3) (isPlain b) (b ∷ []) (0x5C ∷ hexDigit (b / 16) ∷ hexDigit (b % 16) ∷ []) (λ e. omega arith) (λ e. omega arith)
+
+pub escaped-most : (s : List ℕ) → length (escaped s) ≤ 3 * length s
+unfolding escaped flatMap
+escaped-most [] = omega arith
+escaped-most (b ∷ s) = omega (arith, length-append (escape b) (escaped s), escape-most b, escaped-most s)
+
+numbered-most : (start : List ℕ) (n : ℕ) (end : List ℕ) → length (numbered start n end) ≤ length start + 20 + length end
+numbered-most start n end = omega (arith, decimal-most n, length-append start (decimal n), length-append (start ++ decimal n) end)
+
+pub part-most : (p : LinePart) → length (lineText p) ≤ 29
+part-most (part.Names n) = omega (arith, numbered-most (0x6E ∷ 0x61 ∷ 0x6D ∷ 0x65 ∷ 0x73 ∷ 0x20 ∷ []) n (0x0A ∷ []))
+part-most (part.Refused n) = omega (arith, numbered-most (0x72 ∷ 0x65 ∷ 0x66 ∷ 0x75 ∷ 0x73 ∷ 0x65 ∷ 0x64 ∷ 0x20 ∷ []) n (0x0A ∷ []))
+part-most part.TooLong = omega arith
+part-most (part.Object n) = omega (arith, numbered-most (0x6F ∷ 0x62 ∷ 0x6A ∷ 0x65 ∷ 0x63 ∷ 0x74 ∷ 0x20 ∷ []) n (0x20 ∷ []))
+part-most part.Property = omega arith
+part-most part.Quote = omega arith
+part-most (part.Heap n) = omega (arith, numbered-most (0x20 ∷ 0x68 ∷ 0x65 ∷ 0x61 ∷ 0x70 ∷ 0x20 ∷ []) n (0x0A ∷ []))
+part-most (part.Inline n) = omega (arith, numbered-most (0x20 ∷ 0x69 ∷ 0x6E ∷ 0x6C ∷ 0x69 ∷ 0x6E ∷ 0x65 ∷ 0x20 ∷ []) n (0x0A ∷ []))
+part-most part.Name = omega arith
+part-most part.End = omega arith

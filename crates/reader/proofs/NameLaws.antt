@@ -10,7 +10,7 @@ use lib.ListN.{length, take, drop, length-append, length-drop}
 use lib.Seq.{slice}
 use Rattle.text.specs.Errors.{failureOf}
 use Rattle.text.specs.Replies.{WritesLossy}
-use Rattle.text.specs.Result.{Result, ok, error, checkEach, overwritten, needPlace}
+use Rattle.text.specs.Result.{Result, ok, error, mapResult, checkEach, overwritten, needPlace}
 use Rattle.text.specs.Utf8.{lossy, partsFrom, replacedIn}
 use Rattle.text.specs.declared.error.MatError.{MatError}
 use Rattle.text.specs.declared.error.MatError.the-variants.{NameIndexOutOfRange, OutputTooShort}
@@ -22,7 +22,7 @@ use Rattle.reader.specs.Blocks.{blocks}
 use Rattle.reader.specs.Names.{nameBytes, HasName, IsName, InBlob}
 use Rattle.reader.specs.Opening.{declaredNames, offset, offsets, isWithin, isOrdered, pieceCount, fileWrapper, regions, opened, Opens}
 use Rattle.reader.specs.Queries.{intoOutput, nameText}
-use Rattle.reader.specs.Replies.{parseReplyOf, WritesText}
+use Rattle.reader.specs.Replies.{parseReplyOf, nameReplyOf, WritesText}
 use Rattle.reader.specs.declared.file_wrapper.FileWrapper.{FileWrapper}
 use Rattle.reader.specs.declared.file_wrapper.ParseReply.{ParseReply}
 use Rattle.reader.specs.declared.file_wrapper.ParseReply.the-variants as parse
@@ -143,6 +143,25 @@ module _ (b text : List ℕ) {p : Piece} {x : LossyReply} {text' : List ℕ} (i 
 
   pub part-short : {n : ℕ} → x ≡ lossyReply.TooShort n → WritesText (ok (lossy (slice (p .start) (p .end) b))) text (name.Error (OutputTooShort n)) text'
   part-short g = piece-short (slice (p .start) (p .end) b) text whole g
+
+-- what was written lies in its output
+pub in-output : {A : Type 0} (m : Result (List A)) (room n : ℕ) → ok n ≡ mapResult length (intoOutput m room) → n ≤ room
+in-output (error f) room n e =
+    let z : _≡_ {A = ℕ} 0 1 = cc in
+    absurd (omega arith)
+in-output (ok xs) room n e =
+    either (leb (length xs) room)
+    (λ t. let q : ok n ≡ ok (length xs) = simp t at e in
+    let z : n ≡ length xs = cc in
+    omega (arith, leb-true (length xs) room t))
+    (λ t. let q : ok n ≡ error (record { number = 34; place = needPlace (length xs) }) = simp t at e in
+    let z : _≡_ {A = ℕ} 0 1 = cc in
+    absurd (omega arith))
+
+pub text-in-output : {m : Result (List ℕ)} {text text' : List ℕ} {r : NameReply} {n : ℕ} → r ≡ name.Text n → WritesText m text r text' → n ≤ length text'
+text-in-output {m} {text} {n = n} g w =
+    let e : ok n ≡ mapResult length (intoOutput m (length text)) = ap nameReplyOf (sym g) ∙ w .reply in
+    omega (arith, in-output m (length text) n e, text-same w)
 
 -- ---- names
 

@@ -6,18 +6,19 @@ use mathlib.Core.List.{List, [], _∷_, _++_, map}
 use Prim.Native.Nat.{ℕ, zero, suc, _+_, _-_, _*_, _^_, _≤_, _<_, min}
 use native.Mathlib.Numerals.{add-one}
 use native.Mathlib.Omega.{arith}
-use borrow.Author.Tests.{le-leb, lt-leb, eq-eqb, ne-eqb}
+use borrow.Author.Tests.{le-leb, lt-leb, leb-true, eq-eqb, ne-eqb}
 use lib.Dec.{leb}
-use lib.ListN.{length, drop, set, length-append, length-drop}
-use Rattle.text.specs.Result.{ok}
+use lib.ListN.{length, drop, set, length-append, length-drop, length-map}
+use Rattle.text.specs.Result.{Result, ok, error, mapResult, overwritten}
 use Rattle.text.specs.declared.error.MatError.{MatError}
 use Rattle.text.specs.declared.error.MatError.the-variants.{NameIndexOutOfRange, UnknownFieldType, OutputTooShort}
 use Rattle.text.proofs.ResultLaws.{reply-is, seq-passed, seq-failed}
+use Rattle.text.proofs.TestLaws.{either}
 use Rattle.reader.specs.Objects.{checkBlock, objectRow, triplesFrom, triplesOf, checkTriple, checkTriples, recordRow, recordTriples, objectTriples, rowOf}
 use Rattle.reader.specs.ObjectStages.{firstBlocks, ToObject, objectReplyOf, IsBlock, Stands, ReadsObject, TriplesIn, triplesReplyOf, PassedTriples, Triples, RecordTriples, ReadsTriples}
 use Rattle.reader.specs.Opening.{opened, Opens}
-use Rattle.reader.specs.Queries.{objectRecord, checkObject}
-use Rattle.reader.specs.Replies.{parseReplyOf, checkedOf, WritesRows}
+use Rattle.reader.specs.Queries.{intoOutput, objectRecord, checkObject}
+use Rattle.reader.specs.Replies.{parseReplyOf, checkedOf, propertiesReplyOf, WritesRows}
 use Rattle.reader.specs.Wire.{tripleAt}
 use Rattle.reader.specs.declared.file_wrapper.Checked.{Checked}
 use Rattle.reader.specs.declared.file_wrapper.Checked.the-variants as checked
@@ -28,11 +29,13 @@ use Rattle.reader.specs.declared.objects.Cursors.{Cursors}
 use Rattle.reader.specs.declared.objects.ObjectReply.{ObjectReply}
 use Rattle.reader.specs.declared.objects.ObjectReply.the-variants as object
 use Rattle.reader.specs.declared.objects.ObjectRow.{ObjectRow}
+use Rattle.reader.specs.declared.properties.PropertiesReply.{PropertiesReply}
 use Rattle.reader.specs.declared.properties.PropertiesReply.the-variants as properties
 use Rattle.reader.specs.declared.properties.TriplesReply.{TriplesReply}
 use Rattle.reader.specs.declared.properties.TriplesReply.the-variants as triples
 use Rattle.reader.specs.declared.records.ObjectRecord.{ObjectRecord}
 use Rattle.reader.specs.declared.records.Triple.{Triple}
+use Rattle.reader.proofs.NameLaws.{in-output}
 use Rattle.reader.proofs.ObjectLaws.{cursors-start}
 
 -- ---- the checks of one triple
@@ -250,3 +253,18 @@ module _ (b : List ℕ) (id : ℕ) {x : TriplesReply} (read : ReadsTriples b id 
         let l = length-triples b at n in
         let t : leb (length (triplesFrom b at n)) (length rows) ≡ true = le-leb (length (triplesFrom b at n)) (length rows) (omega arith) in
         rw come (record { reply = simp t (ap ok (sym l)); buffer = simp t (rw (length-rows b at n) e) })
+
+-- the rows lie in their output
+rows-same : (m : Result (List Triple)) (rows rows' : List (List ℕ)) → rows' ≡ overwritten (map rowOf) (intoOutput m (length rows)) rows → length rows' ≡ length rows
+rows-same (error f) rows rows' e = ap length e
+rows-same (ok ts) rows rows' e =
+    either (leb (length ts) (length rows))
+    (λ t. let h : length ts ≤ length rows = leb-true (length ts) (length rows) t in
+    let k : length (map rowOf ts) ≡ length ts = length-map ts rowOf in
+    ap length (simp t at e) ∙ omega (arith, length-append (map rowOf ts) (drop (length (map rowOf ts)) rows), length-drop (length (map rowOf ts)) rows))
+    (λ t. ap length (simp t at e))
+
+pub rows-in-output : {m : Result (List Triple)} {rows rows' : List (List ℕ)} {r : PropertiesReply} {n : ℕ} → r ≡ properties.Rows n → WritesRows m rows r rows' → n ≤ length rows'
+rows-in-output {m} {rows} {rows'} {n = n} g w =
+    let e : ok n ≡ mapResult length (intoOutput m (length rows)) = ap propertiesReplyOf (sym g) ∙ w .reply in
+    omega (arith, in-output m (length rows) n e, rows-same m rows rows' (w .buffer))
