@@ -1,12 +1,16 @@
 // Prints the listing of a metadata blob: how many names it declares, its objects with their classes, and their properties.
-use libc::STDIN_FILENO;
-use libc::STDOUT_FILENO;
+mod input;
+mod output;
+
+use input::read_input;
+use output::Output;
+use output::finish;
+use output::put_name;
+use output::put_part;
 use reader::classes::object_class_name;
 use reader::file_wrapper::FileWrapper;
 use reader::file_wrapper::ParseReply;
 use reader::lines::LinePart;
-use reader::lines::write_escaped;
-use reader::lines::write_part;
 use reader::names::NameReply;
 use reader::names::name;
 use reader::properties::PropertiesReply;
@@ -15,12 +19,10 @@ use text::error::MatError;
 ghost use mathlib.Core.Path.{_≡_};
 ghost use Prim.Native.Nat.{_^_, _≤_, _<_};
 ghost use lib.ListN.{length};
+ghost use Rattle.printing.specs.Output.{Ready};
 
 // As many property rows as a blob of 65,536 bytes can have.
 const ROWS: usize = 5461;
-
-// The most bytes of a name that are shown at a time: three for each fit a buffer of 4,096.
-const CHUNK: usize = 1365;
 
 fn rows_buffer() -> [[u32; 3]; ROWS]
     ensures { λ r. ⌜ 5461 ≡ length r ⌝ }
@@ -28,164 +30,226 @@ fn rows_buffer() -> [[u32; 3]; ROWS]
     [[0; 3]; ROWS]
 }
 
-// The first n bytes, all where there are fewer.
-fn first(text: &[u8], n: usize) -> &[u8] {
-    if n <= text.len() {
-        return &text[0..n];
-    }
-    text
-}
-
-fn first_rows(rows: &[[u32; 3]], n: usize) -> &[[u32; 3]] {
-    if n <= rows.len() {
-        return &rows[0..n];
-    }
-    rows
-}
-
-// Prints a text that was written to the start of out. A part of a line fits every buffer here, so that none is refused.
-fn print(reply: NameReply, out: &[u8]) {
-    if let NameReply::Text(n) = reply {
-        io::write_all(STDOUT_FILENO, first(out, n));
-    }
-}
-
-fn print_part(part: LinePart) {
-    let out: &mut [u8] = &mut io::buffer();
-    let reply = write_part(part, out);
-    print(reply, out);
-}
-
-// The end of the chunk that begins at an index below the length.
-fn chunk_end(start: usize, length: usize) -> usize
-    requires { ⌜ start < length ⌝ }
-    ensures { λ r. ⌜ (start < r) × (r ≤ length) ⌝ }
+fn put_refusal(o: Output, error: MatError, out: &mut [u8]) -> Output
+    requires { ⌜ Ready o (now out) ⌝ }
+    ensures { λ r. ⌜ Ready r (now (out .exit)) ⌝ }
 {
-    if CHUNK < length - start {
-        return start + CHUNK;
-    }
-    length
+    put_part(o, LinePart::Refused(error.failure().number), out)
 }
 
-// A name between quotes.
-fn print_name(name: &[u8]) {
-    print_part(LinePart::Quote);
-    let out: &mut [u8] = &mut io::buffer();
-    let mut i: usize = 0;
-    while i < name.len() {
-        let end = chunk_end(i, name.len());
-        let reply = write_escaped(&name[i..end], out);
-        print(reply, out);
-        i = end;
+// The value of a property that is a number.
+fn number_part(row: [u32; 3]) -> LinePart {
+    if row[1] == 1 {
+        return LinePart::Heap(row[2]);
     }
-    print_part(LinePart::Quote);
+    LinePart::Inline(row[2])
 }
 
-fn print_refusal(error: MatError) {
-    print_part(LinePart::Refused(error.failure().number));
-}
-
-// The value of a property. That a name fits text was found out before.
-fn print_value(blob: &[u8], row: [u32; 3], text: &mut [u8]) {
-    match row[1] {
-        0 => {
-            print_part(LinePart::Name);
-            if let NameReply::Text(n) = name(blob, row[2], text) {
-                print_name(first(text, n));
-            }
-            print_part(LinePart::End);
-        }
-        1 => print_part(LinePart::Heap(row[2])),
-        _ => print_part(LinePart::Inline(row[2])),
-    }
-}
-
-// The name that is a property's value, nothing for another value.
-fn value_name(blob: &[u8], row: [u32; 3], text: &mut [u8]) -> NameReply {
-    if row[1] == 0 {
-        return name(blob, row[2], text);
-    }
-    NameReply::Text(0)
-}
-
-// One line: the property, or that one of its names does not fit text.
-fn list_property(blob: &[u8], row: [u32; 3], text: &mut [u8]) {
-    print_part(LinePart::Property);
-    if let NameReply::Error(e) = value_name(blob, row, text) {
-        print_refusal(e);
-        return;
-    }
+// The rest of a line whose value is a number, or that its name does not fit text.
+fn list_number(o: Output, blob: &[u8], row: [u32; 3], text: &mut [u8], out: &mut [u8]) -> Output
+    requires { ⌜ Ready o (now out) ⌝ }
+    ensures { λ r. ⌜ Ready r (now (out .exit)) ⌝ }
+{
     match name(blob, row[0], text) {
         NameReply::Text(n) => {
-            print_name(first(text, n));
-            print_value(blob, row, text);
+            let named = put_name(o, &text[0..n], out);
+            put_part(named, number_part(row), out)
         }
-        NameReply::Error(e) => print_refusal(e),
+        NameReply::Error(e) => put_refusal(o, e, out),
     }
 }
 
-fn list_rows(blob: &[u8], rows: &[[u32; 3]], text: &mut [u8]) {
+// The rest of a line whose value is a name, of this text, or that the property's own name does not fit text.
+fn list_named(
+    o: Output,
+    blob: &[u8],
+    row: [u32; 3],
+    value: &[u8],
+    text: &mut [u8],
+    out: &mut [u8],
+) -> Output
+    requires { ⌜ Ready o (now out) ⌝ }
+    ensures { λ r. ⌜ Ready r (now (out .exit)) ⌝ }
+{
+    match name(blob, row[0], text) {
+        NameReply::Text(n) => {
+            let named = put_name(o, &text[0..n], out);
+            let word = put_part(named, LinePart::Name, out);
+            let shown = put_name(word, value, out);
+            put_part(shown, LinePart::End, out)
+        }
+        NameReply::Error(e) => put_refusal(o, e, out),
+    }
+}
+
+// One line: the property, or that one of its names does not fit its buffer. Both are there before either is printed.
+fn list_property(
+    o: Output,
+    blob: &[u8],
+    row: [u32; 3],
+    text: &mut [u8],
+    value: &mut [u8],
+    out: &mut [u8],
+) -> Output
+    requires { ⌜ Ready o (now out) ⌝ }
+    ensures { λ r. ⌜ Ready r (now (out .exit)) ⌝ }
+{
+    let start = put_part(o, LinePart::Property, out);
+    if row[1] != 0 {
+        return list_number(start, blob, row, text, out);
+    }
+    match name(blob, row[2], value) {
+        NameReply::Text(n) => list_named(start, blob, row, &value[0..n], text, out),
+        NameReply::Error(e) => put_refusal(start, e, out),
+    }
+}
+
+fn list_rows(
+    o: Output,
+    blob: &[u8],
+    rows: &[[u32; 3]],
+    text: &mut [u8],
+    value: &mut [u8],
+    out: &mut [u8],
+) -> Output
+    requires { ⌜ Ready o (now out) ⌝ }
+    ensures { λ r. ⌜ Ready r (now (out .exit)) ⌝ }
+{
+    let mut done = o;
     let mut i: usize = 0;
     while i < rows.len() {
-        list_property(blob, rows[i], text);
+        done = list_property(done, blob, rows[i], text, value, out);
+        if done.failed {
+            return done;
+        }
         i += 1;
     }
+    done
 }
 
-fn list_properties(blob: &[u8], object_id: u32, text: &mut [u8], rows: &mut [[u32; 3]]) {
+fn list_properties(
+    o: Output,
+    blob: &[u8],
+    object_id: u32,
+    text: &mut [u8],
+    value: &mut [u8],
+    rows: &mut [[u32; 3]],
+    out: &mut [u8],
+) -> Output
+    requires { ⌜ Ready o (now out) ⌝ }
+    ensures { λ r. ⌜ Ready r (now (out .exit)) ⌝ }
+{
     match properties(blob, object_id, rows) {
-        PropertiesReply::Rows(n) => list_rows(blob, first_rows(rows, n), text),
+        PropertiesReply::Rows(n) => list_rows(o, blob, &rows[0..n], text, value, out),
         PropertiesReply::Error(e) => {
-            print_part(LinePart::Property);
-            print_refusal(e);
+            let start = put_part(o, LinePart::Property, out);
+            put_refusal(start, e, out)
         }
     }
 }
 
-fn list_object(blob: &[u8], object_id: u32, text: &mut [u8], rows: &mut [[u32; 3]]) {
-    print_part(LinePart::Object(object_id));
+// The line of an object and its class.
+fn list_class(o: Output, class: &[u8], out: &mut [u8]) -> Output
+    requires { ⌜ Ready o (now out) ⌝ }
+    ensures { λ r. ⌜ Ready r (now (out .exit)) ⌝ }
+{
+    let named = put_name(o, class, out);
+    put_part(named, LinePart::End, out)
+}
+
+fn list_object(
+    o: Output,
+    blob: &[u8],
+    object_id: u32,
+    text: &mut [u8],
+    value: &mut [u8],
+    rows: &mut [[u32; 3]],
+    out: &mut [u8],
+) -> Output
+    requires { ⌜ Ready o (now out) ⌝ }
+    ensures { λ r. ⌜ Ready r (now (out .exit)) ⌝ }
+{
+    let start = put_part(o, LinePart::Object(object_id), out);
     match object_class_name(blob, object_id, text) {
         NameReply::Text(n) => {
-            print_name(first(text, n));
-            print_part(LinePart::End);
-            list_properties(blob, object_id, text, rows);
+            let class = list_class(start, &text[0..n], out);
+            list_properties(class, blob, object_id, text, value, rows, out)
         }
-        NameReply::Error(e) => print_refusal(e),
+        NameReply::Error(e) => put_refusal(start, e, out),
     }
 }
 
 // The objects 1 to records - 1.
-fn list_objects(blob: &[u8], records: usize)
+fn list_objects(o: Output, blob: &[u8], records: usize, out: &mut [u8]) -> Output
     requires { ⌜ records < 2 ^ 32 ⌝ }
+    requires { ⌜ Ready o (now out) ⌝ }
+    ensures { λ r. ⌜ Ready r (now (out .exit)) ⌝ }
 {
     let text: &mut [u8] = &mut io::large_buffer();
+    let value: &mut [u8] = &mut io::large_buffer();
     let rows: &mut [[u32; 3]] = &mut rows_buffer();
+    let mut done = o;
     let mut id: u32 = 1;
     while (id as usize) < records {
-        list_object(blob, id, text, rows);
+        done = list_object(done, blob, id, text, value, rows, out);
+        if done.failed {
+            return done;
+        }
         id += 1;
     }
+    done
 }
 
-// Prints the listing of a blob, or its refusal.
-pub fn list(blob: &[u8]) {
+// Prints the listing of a blob, or its refusal, and answers whether all of it was written.
+pub fn list(blob: &[u8]) -> bool {
+    let out: &mut [u8] = &mut io::large_buffer();
+    let o = Output {
+        used: 0,
+        failed: false,
+    };
     match FileWrapper::parse(blob) {
         ParseReply::Parsed(w) => {
-            print_part(LinePart::Names(w.names));
-            list_objects(blob, w.records);
+            let names = put_part(o, LinePart::Names(w.names), out);
+            let objects = list_objects(names, blob, w.records, out);
+            finish(objects, out)
         }
-        ParseReply::Error(e) => print_refusal(e),
+        ParseReply::Error(e) => {
+            let refusal = put_refusal(o, e, out);
+            finish(refusal, out)
+        }
     }
 }
 
-// Prints the listing of the blob on standard input, of at most 65,536 bytes.
+fn print_too_long() {
+    let out: &mut [u8] = &mut io::buffer();
+    let o = put_part(
+        Output {
+            used: 0,
+            failed: false,
+        },
+        LinePart::TooLong,
+        out,
+    );
+    finish(o, out);
+}
+
+// Prints the listing of the blob on standard input, of at most 65,536 bytes. A read that fails is told on standard error.
 pub fn list_input() {
     let blob: &mut [u8] = &mut io::large_buffer();
-    let n = io::read_full(STDIN_FILENO, blob);
-    let after: &mut [u8] = &mut [0u8; 1];
-    if io::read_full(STDIN_FILENO, after) != 0 {
-        print_part(LinePart::TooLong);
+    let input = read_input(blob);
+    if input.failed {
         return;
     }
-    list(first(blob, n));
+    let after: &mut [u8] = &mut [0u8; 1];
+    let more = read_input(after);
+    if more.failed {
+        return;
+    }
+    if more.bytes != 0 {
+        print_too_long();
+        return;
+    }
+    let n = input.bytes;
+    let all: &[u8] = blob;
+    list(&all[0..n]);
 }
