@@ -1,8 +1,10 @@
 // Lists blobs one after another, with an empty line after each. On standard input a blob stands after its length, a little-endian 32-bit
 // word. They are the blobs of the recorded listings, then hand-made ones: 39 bytes; names with a space, a quote, a backslash and DEL, with
 // each kind of value; an object whose class id is out of range before one with properties; a block id out of range and a field type 3; a name
-// whose repaired text has 65,538 bytes as a property's name, a value and a class; a name longer than the part that is shown at a time; an
-// object of class id 0 whose region begins at byte 68, so that its block is found only by rounding from the blob's start.
+// whose repaired text has 65,537 bytes, one more than is lent, as a property's name, a value and a class; a name longer than the part that is
+// shown at a time; an object of class id 0 whose region begins at byte 68, so that its block is found only by rounding from the blob's start;
+// a name whose repaired text has 65,536 bytes, as a class, a property's name and a value, and as a class after an empty namespace, whose full
+// stop is one byte too many; a class of 1,401 bytes, each of which is escaped; 5,451 properties, the most that a blob of 65,536 bytes can have.
 use libc::STDIN_FILENO;
 use libc::STDOUT_FILENO;
 ghost use mathlib.Core.Path.{_≡_};
@@ -25,9 +27,10 @@ fn list_next(blob: &mut [u8]) -> bool {
         return false;
     }
     io::read_full(STDIN_FILENO, &mut blob[0..n]);
-    printing::list(&blob[0..n]);
-    io::write_all(STDOUT_FILENO, b"\n");
-    true
+    if !printing::list(&blob[0..n]) {
+        return false;
+    }
+    io::write_all(STDOUT_FILENO, b"\n")
 }
 
 fn main() {
