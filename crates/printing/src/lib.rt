@@ -21,7 +21,7 @@ ghost use Prim.Native.Nat.{_^_, _≤_, _<_};
 ghost use lib.ListN.{length};
 ghost use Rattle.printing.specs.Output.{Ready};
 
-// As many property rows as a blob of 65,536 bytes can have.
+// The property rows that are lent: one for each 12 bytes of a blob of 65,536.
 const ROWS: usize = 5461;
 
 fn rows_buffer() -> [[u32; 3]; ROWS]
