@@ -1,0 +1,78 @@
+//! Times the calls that take more than linear time on files made to be slow;
+//! see README.md.
+
+use std::time::Instant;
+
+use mcos::{Cells, ObjectRow};
+
+/// The limits of document 01: the bytes of a blob, the words of a payload,
+/// those of opaque metadata.
+const MOST_BYTES: usize = 16_777_216;
+const MOST_WORDS: usize = 2_097_152;
+const MOST_METADATA: usize = 65_536;
+
+fn main() {
+    let most = std::env::args().any(|word| word == "--most");
+    println!("| what | seconds |");
+    println!("|---|---:|");
+    for bytes in sizes(1_048_576, MOST_BYTES, most) {
+        listing(bytes, "in order", |id, blocks, objects| 1 + (id - 1) * (blocks - 2) / objects);
+        listing(bytes, "falling", |id, blocks, _| blocks - 1 - (id + 1) % 2);
+    }
+    for words in sizes(5_837, MOST_WORDS, most) {
+        repeated(words);
+    }
+}
+
+/// A size that takes seconds, and the limit, which takes minutes.
+fn sizes(small: usize, limit: usize, most: bool) -> Vec<usize> {
+    if most { vec![small, limit] } else { vec![small] }
+}
+
+fn put_u32(blob: &mut [u8], at: usize, value: usize) {
+    blob[at..at + 4].copy_from_slice(&(value as u32).to_le_bytes());
+}
+
+/// The object listing of a blob that is half empty property blocks and half
+/// object records; `block_of` gives the block of an id among so many blocks
+/// and objects.
+fn listing(bytes: usize, label: &str, block_of: impl Fn(usize, usize, usize) -> usize) {
+    let (heap_end, classes_end) = (48, 64);
+    let objects = (bytes - classes_end) / 2 / 24;
+    let blocks = (bytes - classes_end - 24 * objects) / 8;
+    let records = classes_end + 8 * blocks;
+    let end = records + 24 * objects;
+    let mut blob = vec![0; end];
+    put_u32(&mut blob, 0, 4);
+    put_u32(&mut blob, 4, 1);
+    let offsets = [heap_end, classes_end, records, end, end, end, end, end];
+    for (k, offset) in offsets.into_iter().enumerate() {
+        put_u32(&mut blob, 8 + 4 * k, offset);
+    }
+    for id in 1..objects {
+        put_u32(&mut blob, records + 24 * id + 12, block_of(id, blocks, objects));
+    }
+    let mut rows = vec![ObjectRow::default(); objects];
+    let start = Instant::now();
+    let listed = mcos::list_objects(&blob, &mut rows).expect("a sound blob");
+    let seconds = start.elapsed().as_secs_f64();
+    println!("| list {listed} objects, {blocks} blocks, {end} bytes, block ids {label} | {seconds:.3} |");
+}
+
+/// `decode_string` of as many ids as there is room for, all of one payload;
+/// with no room for the text it ends with 34 once all are measured.
+fn repeated(words: usize) {
+    let mut blob = vec![0; 144];
+    mcos::build_string_filewrapper_metadata(0, &mut blob).expect("room for the blob");
+    let mut payload = vec![0x0061_0061_0061_0061; words];
+    payload[..4].copy_from_slice(&[1, 1, 1, 4 * (words as u64 - 4)]);
+    let ids = MOST_METADATA - 4;
+    let mut metadata = vec![1; MOST_METADATA];
+    metadata[..3].copy_from_slice(&[0xDD00_0000, 1, ids as u32]);
+    let cells = Cells { directory: &[0, words as u64], kinds: &[0], words: &payload };
+    let start = Instant::now();
+    let error = mcos::decode_string(&blob, cells, &metadata, &mut [], &mut []).expect_err("no room");
+    let seconds = start.elapsed().as_secs_f64();
+    assert_eq!(error.number(), 34);
+    println!("| decode {ids} ids of one payload of {words} words | {seconds:.3} |");
+}
