@@ -82,7 +82,10 @@ fn edit_store(
     text: &[u8],
     spans: &[u64],
 ) -> Edited
-    ensures { λ r. ⌜ Edits (storeOf objects «blob_bytes» used (now (blob .entry)) (now (directory .entry)) (now (kinds .entry)) (now (words .entry))) (call (storeOf objects «blob_bytes» used (now (blob .entry)) (now (directory .entry)) (now (kinds .entry)) (now (words .entry))) (editOf kind «object_id» (now (dims .entry)) (now (text .entry)) (now (spans .entry)))) r (now (blob .exit)) (now (directory .exit)) (now (kinds .exit)) (now (words .exit)) ⌝ }
+    ensures { λ r. ⌜ (
+        let s = storeOf objects «blob_bytes» used (now (blob .entry)) (now (directory .entry)) (now (kinds .entry)) (now (words .entry)) in
+        let e = editOf kind «object_id» (now (dims .entry)) (now (text .entry)) (now (spans .entry)) in
+        Edits s (call s e) r (now (blob .exit)) (now (directory .exit)) (now (kinds .exit)) (now (words .exit))) ⌝ }
 {
     if kind == 0 {
         return append_at(
@@ -129,7 +132,10 @@ fn edit_at(
     i: usize,
 ) -> Edited
     requires { ⌜ 8 * i + 7 < length (now ops) ⌝ }
-    ensures { λ r. ⌜ Edits (storeOf objects «blob_bytes» used (now (blob .entry)) (now (directory .entry)) (now (kinds .entry)) (now (words .entry))) (call (storeOf objects «blob_bytes» used (now (blob .entry)) (now (directory .entry)) (now (kinds .entry)) (now (words .entry))) (editAt (now (ops .entry)) (now (dims .entry)) (now (text .entry)) (now (spans .entry)) i)) r (now (blob .exit)) (now (directory .exit)) (now (kinds .exit)) (now (words .exit)) ⌝ }
+    ensures { λ r. ⌜ (
+        let s = storeOf objects «blob_bytes» used (now (blob .entry)) (now (directory .entry)) (now (kinds .entry)) (now (words .entry)) in
+        let e = editAt (now (ops .entry)) (now (dims .entry)) (now (text .entry)) (now (spans .entry)) i in
+        Edits s (call s e) r (now (blob .exit)) (now (directory .exit)) (now (kinds .exit)) (now (words .exit))) ⌝ }
 {
     let at = EDIT_WIDTH * i;
     let its_dims = part(dims, ops[at + 2], ops[at + 3]);
@@ -186,7 +192,11 @@ fn run_edit(
     i: usize,
 ) -> Edited
     requires { ⌜ (8 * i + 7 < length (now ops)) × (2 * i + 1 < length (now replies)) ⌝ }
-    ensures { λ r. ⌜ RunsEdit (storeOf objects «blob_bytes» used (now (blob .entry)) (now (directory .entry)) (now (kinds .entry)) (now (words .entry))) (editAt (now (ops .entry)) (now (dims .entry)) (now (text .entry)) (now (spans .entry)) i) (now (replies .entry)) i r (now (blob .exit)) (now (directory .exit)) (now (kinds .exit)) (now (words .exit)) (now (replies .exit)) ⌝ }
+    ensures { λ r. ⌜ (
+        let s = storeOf objects «blob_bytes» used (now (blob .entry)) (now (directory .entry)) (now (kinds .entry)) (now (words .entry)) in
+        let e = editAt (now (ops .entry)) (now (dims .entry)) (now (text .entry)) (now (spans .entry)) i in
+        RunsEdit s e (now (replies .entry)) i r
+        (now (blob .exit)) (now (directory .exit)) (now (kinds .exit)) (now (words .exit)) (now (replies .exit))) ⌝ }
 {
     let at = REPLY_WIDTH * i;
     let edited = edit_at(
@@ -227,7 +237,11 @@ fn run_all(
     replies: &mut [u64],
 ) -> Ran
     requires { ⌜ IsEmpty (storeOf 0 144 0 (now blob) (now directory) (now kinds) (now words)) ⌝ }
-    ensures { λ r. ⌜ Ends (storeOf 0 144 0 (now (blob .entry)) (now (directory .entry)) (now (kinds .entry)) (now (words .entry))) (editsIn (now (ops .entry)) (now (dims .entry)) (now (text .entry)) (now (spans .entry)) (length (now (replies .entry)))) (now (replies .entry)) r (now (blob .exit)) (now (directory .exit)) (now (kinds .exit)) (now (words .exit)) (now (replies .exit)) ⌝ }
+    ensures { λ r. ⌜ (
+        let s = storeOf 0 144 0 (now (blob .entry)) (now (directory .entry)) (now (kinds .entry)) (now (words .entry)) in
+        let es = editsIn (now (ops .entry)) (now (dims .entry)) (now (text .entry)) (now (spans .entry)) (length (now (replies .entry))) in
+        Ends s es (now (replies .entry)) r
+        (now (blob .exit)) (now (directory .exit)) (now (kinds .exit)) (now (words .exit)) (now (replies .exit))) ⌝ }
 {
     let n = least(ops.len() / EDIT_WIDTH, replies.len() / REPLY_WIDTH);
     let mut edited = Edited {
@@ -278,7 +292,10 @@ pub fn run_edits(
     spans: &[u64],
     replies: &mut [u64],
 ) -> RunReply
-    ensures { λ r. ⌜ Runs (now (blob .entry)) (now (directory .entry)) (now (kinds .entry)) (now (words .entry)) (editsIn (now (ops .entry)) (now (dims .entry)) (now (text .entry)) (now (spans .entry)) (length (now (replies .entry)))) (now (replies .entry)) r (now (blob .exit)) (now (directory .exit)) (now (kinds .exit)) (now (words .exit)) (now (replies .exit)) ⌝ }
+    ensures { λ r. ⌜ (
+        let es = editsIn (now (ops .entry)) (now (dims .entry)) (now (text .entry)) (now (spans .entry)) (length (now (replies .entry))) in
+        Runs (now (blob .entry)) (now (directory .entry)) (now (kinds .entry)) (now (words .entry)) es (now (replies .entry)) r
+        (now (blob .exit)) (now (directory .exit)) (now (kinds .exit)) (now (words .exit)) (now (replies .exit))) ⌝ }
 {
     match build_string_filewrapper_metadata(0, blob) {
         LengthReply::Length(_) => RunReply::Done(run_all(
