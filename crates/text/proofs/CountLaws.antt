@@ -82,8 +82,8 @@ module _ (t : List ℕ) where
           let n : i + max 1 (matched t i) ≡ i + r = omega (arith, w .1) in
           simp (lt-ltb i (length t) h, w .0) (ap (λ (k : ℕ). Scalar (valueAt t i (matched t i)) k) n)
 
-      pub count-whole : (r ≡ 0 → ⊥) → Counting t (n + (1 + r / 4)) (i + r)
-      count-whole z = count-scalar (1 + r / 4) (scalar-here z) (let q : i + r - i ≡ r = omega arith in rw q)
+      pub count-whole : (r ≡ 0 → ⊥) → {u : ℕ} → u ≡ 1 + r / 4 → Counting t (n + u) (i + r)
+      count-whole z {u} k = count-scalar u (scalar-here z) (let q : i + r - i ≡ r = omega arith in rw q k)
 
       pub count-stop : r ≡ 0 → CountsUnits t (count.IllFormed i)
       unfolding scalarsOf firstIllFormed

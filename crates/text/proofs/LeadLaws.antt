@@ -26,15 +26,15 @@ lowBy b = cond (eqb b 224) 160 (cond (eqb b 240) 144 128)
 abbrev highBy : ℕ → ℕ
 highBy b = cond (eqb b 237) 159 (cond (eqb b 244) 143 191)
 
-pub length-by : (b : ℕ) → b < 256 → sequenceLength b ≡ lengthBy b
+length-by : (b : ℕ) → b < 256 → sequenceLength b ≡ lengthBy b
 unfolding sequenceLength find table
 length-by b h = agree sequenceLength lengthBy 256 tt b h
 
-pub low-by : (b : ℕ) → b < 256 → secondRange b .low ≡ lowBy b
+low-by : (b : ℕ) → b < 256 → secondRange b .low ≡ lowBy b
 unfolding secondRange find table
 low-by b h = agree (λ k. secondRange k .low) lowBy 256 tt b h
 
-pub high-by : (b : ℕ) → b < 256 → secondRange b .high ≡ highBy b
+high-by : (b : ℕ) → b < 256 → secondRange b .high ≡ highBy b
 unfolding secondRange find table
 high-by b h = agree (λ k. secondRange k .high) highBy 256 tt b h
 
@@ -51,7 +51,7 @@ find-none (r ∷ rs) t b h =
     let l : leb b (r .first-high) ≡ false = lt-leb b (r .first-high) (omega (arith, leb-true (r .first-high) 255 (p .0))) in
     simp (l, and-false) (find-none rs (p .1) b h)
 
-pub no-start : (b : ℕ) → 256 ≤ b → sequenceLength b ≡ 0
+no-start : (b : ℕ) → 256 ≤ b → sequenceLength b ≡ 0
 unfolding sequenceLength table
 no-start b h = find-none table refl b h
 
@@ -75,6 +75,10 @@ lead-by b false false false false false a c d e f n w h = absurd (omega arith)
 pub lead-range : (b : ℕ) → b < 256 → (n : ℕ) → n ≡ sequenceLength b → 0 < n → Lead n b
 lead-range b h n e p =
     lead-by b (ltb b 128) (ltb b 194) (ltb b 224) (ltb b 240) (ltb b 245) refl refl refl refl refl n (e ∙ length-by b h) p
+
+-- ASCII alone has one byte
+pub not-one : (b : ℕ) → 128 ≤ b → sequenceLength b ≡ 1 → ⊥
+not-one b h e = omega (arith, lead-range b (starts-byte b (omega arith)) 1 (sym e) (omega arith) .to)
 
 -- the range of the second byte
 pub record Second (a b : ℕ) : Type 0 where

@@ -165,7 +165,7 @@ module _ (s : List ℕ) (at v next : ℕ) (r : Reads s at v next) where
   took : {w : List ℕ} → Spells v w → drop at s ≡ w ++ drop next s → Took s at v next
   took p e = record { scalar = p .scalar; rest = rw (p .bytes) e }
 
-  starts : 0 < sequenceLength (getD s at 0)
+  pub starts : 0 < sequenceLength (getD s at 0)
   unfolding wholeAt
   starts = ltb-true _ _ (and-is (ltb 0 (sequenceLength (getD s at 0))) _ (r .whole) .0)
 
@@ -173,10 +173,10 @@ module _ (s : List ℕ) (at v next : ℕ) (r : Reads s at v next) where
   unfolding wholeAt
   all-matched = eqb-true _ _ (and-is (ltb 0 (sequenceLength (getD s at 0))) _ (r .whole) .1)
 
-  value-is : (k : ℕ) → sequenceLength (getD s at 0) ≡ k → v ≡ valueAt s at k
+  pub value-is : (k : ℕ) → sequenceLength (getD s at 0) ≡ k → v ≡ valueAt s at k
   value-is k e = r .value ∙ ap (valueAt s at) (all-matched ∙ e)
 
-  next-after : (k : ℕ) → sequenceLength (getD s at 0) ≡ k → 0 < k → next ≡ at + k
+  pub next-after : (k : ℕ) → sequenceLength (getD s at 0) ≡ k → 0 < k → next ≡ at + k
   unfolding nextAt
   next-after k e h = omega (arith, r .advance .next-is, all-matched)
 

@@ -1,23 +1,23 @@
 // UTF-8 as the Unicode Standard, chapter 3, has it: one decoding step, well-formedness, and the repaired text of ill-formed bytes.
 ghost use mathlib.Core.Path.{_≡_};
 ghost use mathlib.Core.Option.{some};
-ghost use Prim.Native.Nat.{_+_, _≤_, _<_};
-ghost use lib.Dec.{leb};
+ghost use Prim.Native.Nat.{_+_, _/_, _≤_, _<_};
+ghost use lib.Dec.{leb, eqb};
 ghost use lib.ListN.{length, getD};
 ghost use Rattle.text.specs.Buffer.{same, put, Puts, Places};
 ghost use Rattle.text.specs.Replies.{validityPlace, CountsUnits, lossyLength, WritesLossy};
-ghost use Rattle.text.specs.Stages.{stepHas, wholeLength};
-ghost use Rattle.text.specs.Unicode.{within, Below, isScalar, utf8, encoded};
+ghost use Rattle.text.specs.Stages.{stepHas, hasSecond, wholeLength};
+ghost use Rattle.text.specs.Unicode.{Below, isScalar, utf8, encoded};
 ghost use Rattle.text.specs.Utf8.{sequenceLength, secondRange, hasIn, stepAt, partsFrom, firstIllFormed, lossy};
 
 // The range of a byte, both ends in it.
-pub struct Range {
-    pub low: u8,
-    pub high: u8,
+struct Range {
+    low: u8,
+    high: u8,
 }
 
 // The length of a well-formed sequence by its first byte: its leading ones, none for a sequence of one byte. 0: it starts none.
-pub fn sequence_length(lead: u8) -> u32
+fn sequence_length(lead: u8) -> u32
     ensures { λ r. ⌜ r ≡ sequenceLength lead ⌝ }
 {
     let ones = u8::leading_zeros(!lead);
@@ -27,8 +27,16 @@ pub fn sequence_length(lead: u8) -> u32
     }
 }
 
+// Whether the sequences that start with a byte have n bytes; 0: it starts none. Of a constant length the compiler makes a test of the
+// byte's first bits, and counts no zeros.
+pub fn has_length(lead: u8, n: u32) -> bool
+    ensures { λ r. ⌜ r ≡ eqb (sequenceLength lead) n ⌝ }
+{
+    sequence_length(lead) == n
+}
+
 // The range of the second byte, which the first byte alone decides.
-pub fn second_range(lead: u8) -> Range
+fn second_range(lead: u8) -> Range
     ensures { λ r. ⌜ r ≡ secondRange lead ⌝ }
 {
     match lead {
@@ -140,64 +148,58 @@ fn sequence_at(s: &[u8], at: usize) -> Step
     }
 }
 
-// Whether a byte is from low to high.
-fn in_range(byte: u8, low: u8, high: u8) -> bool
-    ensures { λ r. ⌜ r ≡ within low high byte ⌝ }
+// Whether the byte after the one at a position is in the range that this one gives it.
+fn has_second(s: &[u8], at: usize) -> bool
+    requires { ⌜ at < length (now s) ⌝ }
+    ensures { λ r. ⌜ r ≡ hasSecond (now (s .entry)) at ⌝ }
 {
-    low <= byte && byte <= high
+    let range = second_range(s[at]);
+    has(s, at + 1, range.low, range.high)
 }
 
-// The length of the sequence that starts at a byte from F0 on, 0 where it is not whole. The length is tested once, and not for each byte.
-fn four_length(s: &[u8], at: usize) -> usize
-    requires { ⌜ (at < length (now s)) × (240 ≤ getD (now s) at 0) ⌝ }
-    ensures { λ r. ⌜ r ≡ wholeLength (now (s .entry)) at ⌝ }
-{
-    if s.len() - at < 4 {
-        return 0;
-    }
-    let lead = s[at];
-    if 0xF4 < lead {
-        return 0;
-    }
-    let range = second_range(lead);
-    if !in_range(s[at + 1], range.low, range.high) {
-        return 0;
-    }
-    if !in_range(s[at + 2], 0x80, 0xBF) {
-        return 0;
-    }
-    if !in_range(s[at + 3], 0x80, 0xBF) {
-        return 0;
-    }
-    4
-}
-
-// The length of the well-formed sequence at a byte that is not ASCII, 0 where there is none.
+// The length of the well-formed sequence at a byte that is not ASCII, 0 where there is none. The last byte is looked at first: where it is
+// there, the others are, and the end of the text is tested once.
 fn whole_length(s: &[u8], at: usize) -> usize
     requires { ⌜ (at < length (now s)) × (128 ≤ getD (now s) at 0) ⌝ }
-    ensures { λ r. ⌜ r ≡ wholeLength (now (s .entry)) at ⌝ }
+    ensures { λ r. ⌜ (r ≡ wholeLength (now (s .entry)) at) × (r ≤ 4) ⌝ }
 {
     let lead = s[at];
-    if lead < 0xC2 {
+    if has_length(lead, 0) {
         return 0;
     }
-    if lead < 0xE0 {
-        if !has(s, at + 1, 0x80, 0xBF) {
+    if has_length(lead, 2) {
+        if !has_second(s, at) {
             return 0;
         }
         return 2;
     }
-    if 0xEF < lead {
-        return four_length(s, at);
+    if has_length(lead, 3) {
+        if !has(s, at + 2, 0x80, 0xBF) {
+            return 0;
+        }
+        if !has_second(s, at) {
+            return 0;
+        }
+        return 3;
     }
-    let range = second_range(lead);
-    if !has(s, at + 1, range.low, range.high) {
+    if !has(s, at + 3, 0x80, 0xBF) {
         return 0;
     }
     if !has(s, at + 2, 0x80, 0xBF) {
         return 0;
     }
-    3
+    if !has_second(s, at) {
+        return 0;
+    }
+    4
+}
+
+// The code units of a sequence of so many bytes.
+fn units_of(size: usize) -> usize
+    requires { ⌜ size ≤ 4 ⌝ }
+    ensures { λ r. ⌜ r ≡ 1 + size / 4 ⌝ }
+{
+    if size == 4 { 2 } else { 1 }
 }
 
 // The larger of two bytes.
@@ -221,7 +223,7 @@ fn highest(text: &[u8]) -> u8
 }
 
 // Whether a number is a Unicode scalar value.
-pub(crate) fn is_scalar(value: u32) -> bool
+fn is_scalar(value: u32) -> bool
     ensures { λ r. ⌜ r ≡ isScalar value ⌝ }
 {
     value < 0xD800 || 0xDFFF < value && value < 0x110000
@@ -317,7 +319,7 @@ pub fn count_units(text: &[u8]) -> UnitCount
         if size == 0 {
             return UnitCount::IllFormed(i);
         }
-        n += 1 + size / 4;
+        n += units_of(size);
         i += size;
     }
     UnitCount::Units(n)

@@ -1,97 +1,91 @@
 -- A sequence of two bytes or more in a well-formed text: its first byte alone tells its length.
 -- Assumes nothing.
-use mathlib.Core.Path.{_≡_, _∙_, sym, ap, ap₂}
-use mathlib.Core.List.{List, _++_}
+use mathlib.Core.Path.{_≡_, _∙_, sym, refl, ap₂}
+use mathlib.Core.Bool.{Bool, true, false}
+use mathlib.Core.List.{List}
 use Prim.Native.Nat.{ℕ, _+_, _*_, _%_, _^_, _≤_, _<_}
 use native.Mathlib.Omega.{arith}
-use lib.ListN.{length, getD, drop}
-use lib.Seq.{getD-drop}
-use Rattle.text.specs.Unicode.{utf8}
-use Rattle.text.specs.Utf8.{matched, valueAt, nextAt, stepAt}
+use borrow.Author.Tests.{eqb-true, eqb-false}
+use lib.Dec.{eqb}
+use lib.ListN.{length, getD}
+use Rattle.text.specs.Utf8.{sequenceLength, valueAt, stepAt}
 use Rattle.text.specs.declared.utf8.Step.the-variants.{Scalar}
+use Rattle.text.proofs.LeadLaws.{not-one}
 use Rattle.text.proofs.PartLaws.{Reads, step-reads}
-use Rattle.text.proofs.ScalarLaws.{by-size, utf8-1, utf8-2, utf8-3, utf8-4}
-use Rattle.text.proofs.Utf8Laws.{step-took, took-size}
+use Rattle.text.proofs.StepLaws.{length-le}
+use Rattle.text.proofs.Utf8Laws.{starts, value-is, next-after}
 use Rattle.writer.specs.Packing.{SequenceAt}
 
 module _ (s : List ℕ) (i : ℕ) (q : SequenceAt s i) where
   reads : Reads s i (q .value) (q .next)
   reads = step-reads s i (q .is)
 
-  -- the first byte there is the first of the value's bytes
-  lead : {w : List ℕ} → utf8 (q .value) ≡ w → getD s i 0 ≡ getD (w ++ drop (q .next) s) 0 0
-  lead e =
-      let z : i + 0 ≡ i = omega arith in
-      let t = step-took s i (q .value) (q .next) reads .rest in
-      rw (← e) (rw z at (sym (getD-drop i s 0 0)) ∙ ap (λ (d : List ℕ). getD d 0 0) t)
+  more : 2 ≤ sequenceLength (getD s i 0)
+  more = omega (arith, starts s i (q .value) (q .next) reads, not-one (getD s i 0) (q .long))
 
-  -- by the number of bytes
-  by-bytes : {P : Type 0} → (getD s i 0 < 0xE0 → length (utf8 (q .value)) ≡ 2 → P)
-      → (0xE0 ≤ getD s i 0 → getD s i 0 < 0xF0 → length (utf8 (q .value)) ≡ 3 → P)
-      → (0xF0 ≤ getD s i 0 → length (utf8 (q .value)) ≡ 4 → P) → P
-  by-bytes two three four =
-      let v : ℕ = q .value in
-      by-size v (λ h. absurd (omega (arith, lead (utf8-1 v h), q .long)))
-      (λ l h. two (omega (arith, lead (utf8-2 v l h))) (ap length (utf8-2 v l h)))
-      (λ l h. three (omega (arith, lead (utf8-3 v l h))) (omega (arith, lead (utf8-3 v l h))) (ap length (utf8-3 v l h)))
-      (λ l. four (omega (arith, lead (utf8-4 v l))) (ap length (utf8-4 v l)))
+  step-is : (k : ℕ) → sequenceLength (getD s i 0) ≡ k → 0 < k → stepAt s i ≡ Scalar (valueAt s i k) (i + k)
+  step-is k e h = q .is ∙ ap₂ Scalar (value-is s i (q .value) (q .next) reads k e) (next-after s i (q .value) (q .next) reads k e h)
 
-  module _ (n : ℕ) (e : length (utf8 (q .value)) ≡ n) where
-    next-is : q .next ≡ i + n
-    next-is = took-size reads ∙ ap (λ (k : ℕ). i + k) e
+  inside : i + sequenceLength (getD s i 0) ≤ length s
+  inside =
+      omega
+      (arith, reads .advance .inside, next-after s i (q .value) (q .next) reads (sequenceLength (getD s i 0)) refl (omega (arith, more)))
 
-    inside : i + n ≤ length s
-    inside = omega (arith, next-is, reads .advance .inside)
-
-    step-is : 2 ≤ n → stepAt s i ≡ Scalar (valueAt s i n) (i + n)
-    unfolding nextAt
-    step-is h =
-        let m : matched s i ≡ n = omega (arith, next-is, reads .advance .next-is) in
-        q .is ∙ ap₂ Scalar (reads .value ∙ ap (valueAt s i) m) next-is
-
-  -- ---- the reads and returns of `sequence_at`
+  -- ---- the reads, sums and returns of `sequence_at`
 
   pub first-there : i < length s
   first-there = reads .advance .here
 
   pub second-there : i + 1 < length s
-  second-there = by-bytes (λ _ e. omega (arith, inside 2 e)) (λ _ _ e. omega (arith, inside 3 e)) (λ _ e. omega (arith, inside 4 e))
+  second-there = omega (arith, more, inside)
 
-  pub third-there : 0xE0 ≤ getD s i 0 → i + 2 < length s
-  third-there l = by-bytes (λ t e. absurd (omega arith)) (λ _ _ e. omega (arith, inside 3 e)) (λ _ e. omega (arith, inside 4 e))
-
-  pub fourth-there : 0xF0 ≤ getD s i 0 → i + 3 < length s
-  fourth-there l = by-bytes (λ t e. absurd (omega arith)) (λ _ t e. absurd (omega arith)) (λ _ e. omega (arith, inside 4 e))
-
-  module _ (m : length s < 2 ^ 64) where
+  -- a slice has fewer than 2^63 bytes
+  module _ (m : length s * 1 < 2 ^ 63) where
     pub fits-1 : i + 1 < 2 ^ 64
-    fits-1 = omega (arith, second-there)
+    fits-1 = omega (arith, first-there)
 
     pub fits-2 : i + 2 < 2 ^ 64
-    fits-2 = omega (arith, second-there)
+    fits-2 = omega (arith, first-there)
 
-    pub fits-3 : 0xE0 ≤ getD s i 0 → i + 3 < 2 ^ 64
-    fits-3 l = omega (arith, third-there l)
+    pub fits-3 : i + 3 < 2 ^ 64
+    fits-3 = omega (arith, first-there)
 
-    pub fits-4 : 0xF0 ≤ getD s i 0 → i + 4 < 2 ^ 64
-    fits-4 l = omega (arith, fourth-there l)
+    pub fits-4 : i + 4 < 2 ^ 64
+    fits-4 = omega (arith, first-there)
 
-  pub of-two : getD s i 0 < 0xE0 → stepAt s i ≡ Scalar (getD s i 0 % 32 * 64 + getD s (i + 1) 0 % 64) (i + 2)
-  unfolding valueAt
-  of-two t = by-bytes (λ _ e. step-is 2 e (omega arith)) (λ l _ e. absurd (omega arith)) (λ l e. absurd (omega arith))
+  module _ {r₂ : Bool} (is₂ : r₂ ≡ eqb (sequenceLength (getD s i 0)) 2) where
+    pub of-two : r₂ ≡ true → stepAt s i ≡ Scalar (getD s i 0 % 32 * 64 + getD s (i + 1) 0 % 64) (i + 2)
+    unfolding valueAt
+    of-two t = step-is 2 (eqb-true (sequenceLength (getD s i 0)) 2 (sym is₂ ∙ t)) (omega arith)
 
-  pub of-three : 0xE0 ≤ getD s i 0 → getD s i 0 < 0xF0
-      → stepAt s i ≡ Scalar (getD s i 0 % 16 * 4096 + getD s (i + 1) 0 % 64 * 64 + getD s (i + 2) 0 % 64) (i + 3)
-  unfolding valueAt
-  of-three l t = by-bytes (λ m e. absurd (omega arith)) (λ _ _ e. step-is 3 e (omega arith)) (λ m e. absurd (omega arith))
+    module _ (n₂ : r₂ ≡ false) where
+      three : 3 ≤ sequenceLength (getD s i 0)
+      three = omega (arith, more, eqb-false (sequenceLength (getD s i 0)) 2 (sym is₂ ∙ n₂))
 
-  pub of-four : 0xF0 ≤ getD s i 0
-      → stepAt s i ≡ Scalar (getD s i 0 % 8 * 262144 + getD s (i + 1) 0 % 64 * 4096 + getD s (i + 2) 0 % 64 * 64 + getD s (i + 3) 0 % 64) (i + 4)
-  unfolding valueAt
-  of-four l = by-bytes (λ m e. absurd (omega arith)) (λ _ m e. absurd (omega arith)) (λ _ e. step-is 4 e (omega arith))
+      pub third-there : i + 2 < length s
+      third-there = omega (arith, three, inside)
 
-pub ruleset there = (first-there, second-there, third-there, fourth-there)
+      module _ {r₃ : Bool} (is₃ : r₃ ≡ eqb (sequenceLength (getD s i 0)) 3) where
+        pub of-three : r₃ ≡ true
+            → stepAt s i ≡ Scalar (getD s i 0 % 16 * 4096 + getD s (i + 1) 0 % 64 * 64 + getD s (i + 2) 0 % 64) (i + 3)
+        unfolding valueAt
+        of-three t = step-is 3 (eqb-true (sequenceLength (getD s i 0)) 3 (sym is₃ ∙ t)) (omega arith)
+
+        module _ (n₃ : r₃ ≡ false) where
+          four : 4 ≡ sequenceLength (getD s i 0)
+          four = omega (arith, three, eqb-false (sequenceLength (getD s i 0)) 3 (sym is₃ ∙ n₃), length-le (getD s i 0))
+
+          pub fourth-there : i + 3 < length s
+          fourth-there = omega (arith, four, inside)
+
+          pub of-four :
+              stepAt s i
+              ≡ Scalar (getD s i 0 % 8 * 262144 + getD s (i + 1) 0 % 64 * 4096 + getD s (i + 2) 0 % 64 * 64 + getD s (i + 3) 0 % 64) (i + 4)
+          unfolding valueAt
+          of-four = step-is 4 (sym four) (omega arith)
+
+pub ruleset there = (first-there, second-there, third-there)
 
 pub ruleset fits = (fits-1, fits-2, fits-3, fits-4)
 
-pub ruleset sequences = (of-two, of-three, of-four)
+pub ruleset sequences = (of-two, of-three)

@@ -1,5 +1,6 @@
 // Code units packed into words, four to a word.
 use text::convert::to_usize;
+use text::utf8::has_length;
 ghost use mathlib.Core.Path.{_≡_};
 ghost use mathlib.Core.Bool.{true};
 ghost use mathlib.Core.List.{[], _∷_};
@@ -112,21 +113,21 @@ pub(crate) struct Sequence {
     next: usize,
 }
 
-// The sequence of two bytes or more at index i of a well-formed text, where the first byte alone tells its length.
+// The sequence of two bytes or more at index i of a well-formed text. Its first byte tells its length, and no later one is tested.
 fn sequence_at(text: &[u8], i: usize) -> Sequence
     requires { ⌜ SequenceAt (now text) i ⌝ }
     ensures { λ r. ⌜ stepAt (now (text .entry)) i ≡ Scalar (r .value) (r .next) ⌝ }
 {
     let lead = text[i];
     let b = (text[i + 1] % 64) as u32;
-    if lead < 0xE0 {
+    if has_length(lead, 2) {
         return Sequence {
             value: (lead % 32) as u32 * 64 + b,
             next: i + 2,
         };
     }
     let c = (text[i + 2] % 64) as u32;
-    if lead < 0xF0 {
+    if has_length(lead, 3) {
         return Sequence {
             value: (lead % 16) as u32 * 4096 + b * 64 + c,
             next: i + 3,

@@ -18,8 +18,8 @@ loop-again-2 : tie.Need-loop-again-2 Inv-loop μ-loop
 loop-again-2 c = search (count-whole, needs)
 
 -- the count stays at most the position, and the position in the text
-add-n-3 : tie.Need-add-n-3 Inv-loop μ-loop
-add-n-3 c = let r = loop-again-2 c in omega arith
+add-n-2 : tie.Need-add-n-2 Inv-loop μ-loop
+add-n-2 c = let r = loop-again-2 c in omega arith
 
 add-i-2 : tie.Need-add-i-2 Inv-loop μ-loop
 add-i-2 c = let r = loop-again-2 c in omega arith
@@ -45,8 +45,8 @@ count-units-spec =
     (λ c. search (count-ascii, needs))
     (λ c κs. search needs)
     (λ c. search (count-stop, needs))
-    (λ c. search needs)
-    add-n-3
+    (λ c κs. search needs)
+    add-n-2
     add-i-2
     loop-less-2
     loop-again-2
