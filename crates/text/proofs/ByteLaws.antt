@@ -1,11 +1,11 @@
 -- The bytes of a scalar value by its size, as the code has them: how many, and stored one by one.
 -- Assumes nothing.
 use mathlib.Core.Path.{_≡_, sym, ap, _∙_}
-use mathlib.Core.Bool.{Bool, true, false, not, and-true, and-false}
+use mathlib.Core.Bool.{Bool, true, false, and-true, and-false}
 use mathlib.Core.List.{List, [], _∷_}
 use Prim.Native.Nat.{ℕ, suc, _+_, _-_, _/_, _%_, _≤_, _<_}
 use native.Mathlib.Omega.{arith}
-use borrow.Author.Tests.{lt-ltb, le-ltb, lt-leb, le-leb, not-true, not-false}
+use borrow.Author.Tests.{lt-ltb, le-ltb, lt-leb, le-leb}
 use lib.Dec.{ltb}
 use lib.ListN.{length, set}
 use lib.Seq.{sets, sets-eq}
@@ -85,15 +85,15 @@ module _ (v : ℕ) where
   len-2 l h = len-of (is-scalar {v = v} (record { top = omega arith; gap = gap-below v (omega arith) })) (size-2 v l h)
 
   module _ {r : Bool} (is : r ≡ isScalar v) where
-    pub len-none : not r ≡ true → 0 ≡ length (encoded utf8 v)
-    len-none n = simp (sym is ∙ not-true r n)
+    pub len-none : r ≡ false → 0 ≡ length (encoded utf8 v)
+    len-none n = simp (sym is ∙ n)
 
-    module _ (yes : not r ≡ false) where
+    module _ (yes : r ≡ true) where
       pub len-3 : 0x800 ≤ v → v < 0x10000 → 3 ≡ length (encoded utf8 v)
-      len-3 l h = len-of (sym is ∙ not-false r yes) (size-3 v l h)
+      len-3 l h = len-of (sym is ∙ yes) (size-3 v l h)
 
       pub len-4 : 0x10000 ≤ v → 4 ≡ length (encoded utf8 v)
-      len-4 l = len-of (sym is ∙ not-false r yes) (size-4 v l)
+      len-4 l = len-of (sym is ∙ yes) (size-4 v l)
 
   -- ---- the returns of `put_scalar`
 

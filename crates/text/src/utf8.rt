@@ -239,13 +239,10 @@ pub fn utf8_len(value: u32) -> usize
     if value < 0x800 {
         return 2;
     }
-    if !is_scalar(value) {
-        return 0;
-    }
     if value < 0x10000 {
-        return 3;
+        return if is_scalar(value) { 3 } else { 0 };
     }
-    4
+    if is_scalar(value) { 4 } else { 0 }
 }
 
 // Writes the bytes of a scalar value into out from index at where they fit, and returns the index after them. A number that is no

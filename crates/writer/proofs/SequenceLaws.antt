@@ -53,39 +53,43 @@ module _ (s : List ℕ) (i : ℕ) (q : SequenceAt s i) where
     pub fits-4 : i + 4 < 2 ^ 64
     fits-4 = omega (arith, first-there)
 
-  module _ {r₂ : Bool} (is₂ : r₂ ≡ eqb (sequenceLength (getD s i 0)) 2) where
-    pub of-two : r₂ ≡ true → stepAt s i ≡ Scalar (getD s i 0 % 32 * 64 + getD s (i + 1) 0 % 64) (i + 2)
-    unfolding valueAt
-    of-two t = step-is 2 (eqb-true (sequenceLength (getD s i 0)) 2 (sym is₂ ∙ t)) (omega arith)
+  module _ {r₄ : Bool} (is₄ : r₄ ≡ eqb (sequenceLength (getD s i 0)) 4) where
+    module _ (t : r₄ ≡ true) where
+      four : sequenceLength (getD s i 0) ≡ 4
+      four = eqb-true (sequenceLength (getD s i 0)) 4 (sym is₄ ∙ t)
 
-    module _ (n₂ : r₂ ≡ false) where
-      three : 3 ≤ sequenceLength (getD s i 0)
-      three = omega (arith, more, eqb-false (sequenceLength (getD s i 0)) 2 (sym is₂ ∙ n₂))
+      pub third-there-of-four : i + 2 < length s
+      third-there-of-four = omega (arith, four, inside)
 
-      pub third-there : i + 2 < length s
-      third-there = omega (arith, three, inside)
+      pub fourth-there : i + 3 < length s
+      fourth-there = omega (arith, four, inside)
 
-      module _ {r₃ : Bool} (is₃ : r₃ ≡ eqb (sequenceLength (getD s i 0)) 3) where
-        pub of-three : r₃ ≡ true
-            → stepAt s i ≡ Scalar (getD s i 0 % 16 * 4096 + getD s (i + 1) 0 % 64 * 64 + getD s (i + 2) 0 % 64) (i + 3)
+      pub of-four :
+          stepAt s i
+          ≡ Scalar (getD s i 0 % 8 * 262144 + getD s (i + 1) 0 % 64 * 4096 + getD s (i + 2) 0 % 64 * 64 + getD s (i + 3) 0 % 64) (i + 4)
+      unfolding valueAt
+      of-four = step-is 4 four (omega arith)
+
+    module _ (n₄ : r₄ ≡ false) {r₂ : Bool} (is₂ : r₂ ≡ eqb (sequenceLength (getD s i 0)) 2) where
+      pub of-two : r₂ ≡ true → stepAt s i ≡ Scalar (getD s i 0 % 32 * 64 + getD s (i + 1) 0 % 64) (i + 2)
+      unfolding valueAt
+      of-two t = step-is 2 (eqb-true (sequenceLength (getD s i 0)) 2 (sym is₂ ∙ t)) (omega arith)
+
+      module _ (n₂ : r₂ ≡ false) where
+        three : sequenceLength (getD s i 0) ≡ 3
+        three =
+            omega
+            (arith, more, length-le (getD s i 0), eqb-false (sequenceLength (getD s i 0)) 4 (sym is₄ ∙ n₄), eqb-false (sequenceLength (getD s i 0)) 2 (sym is₂ ∙ n₂))
+
+        pub third-there : i + 2 < length s
+        third-there = omega (arith, three, inside)
+
+        pub of-three : stepAt s i ≡ Scalar (getD s i 0 % 16 * 4096 + getD s (i + 1) 0 % 64 * 64 + getD s (i + 2) 0 % 64) (i + 3)
         unfolding valueAt
-        of-three t = step-is 3 (eqb-true (sequenceLength (getD s i 0)) 3 (sym is₃ ∙ t)) (omega arith)
+        of-three = step-is 3 three (omega arith)
 
-        module _ (n₃ : r₃ ≡ false) where
-          four : 4 ≡ sequenceLength (getD s i 0)
-          four = omega (arith, three, eqb-false (sequenceLength (getD s i 0)) 3 (sym is₃ ∙ n₃), length-le (getD s i 0))
-
-          pub fourth-there : i + 3 < length s
-          fourth-there = omega (arith, four, inside)
-
-          pub of-four :
-              stepAt s i
-              ≡ Scalar (getD s i 0 % 8 * 262144 + getD s (i + 1) 0 % 64 * 4096 + getD s (i + 2) 0 % 64 * 64 + getD s (i + 3) 0 % 64) (i + 4)
-          unfolding valueAt
-          of-four = step-is 4 (sym four) (omega arith)
-
-pub ruleset there = (first-there, second-there, third-there)
+pub ruleset there = (first-there, second-there, third-there-of-four, fourth-there)
 
 pub ruleset fits = (fits-1, fits-2, fits-3, fits-4)
 
-pub ruleset sequences = (of-two, of-three)
+pub ruleset sequences = (of-four, of-two)

@@ -120,6 +120,14 @@ fn sequence_at(text: &[u8], i: usize) -> Sequence
 {
     let lead = text[i];
     let b = (text[i + 1] % 64) as u32;
+    if has_length(lead, 4) {
+        let c = (text[i + 2] % 64) as u32;
+        let d = (text[i + 3] % 64) as u32;
+        return Sequence {
+            value: (lead % 8) as u32 * 262144 + b * 4096 + c * 64 + d,
+            next: i + 4,
+        };
+    }
     if has_length(lead, 2) {
         return Sequence {
             value: (lead % 32) as u32 * 64 + b,
@@ -127,16 +135,9 @@ fn sequence_at(text: &[u8], i: usize) -> Sequence
         };
     }
     let c = (text[i + 2] % 64) as u32;
-    if has_length(lead, 3) {
-        return Sequence {
-            value: (lead % 16) as u32 * 4096 + b * 64 + c,
-            next: i + 3,
-        };
-    }
-    let d = (text[i + 3] % 64) as u32;
     Sequence {
-        value: (lead % 8) as u32 * 262144 + b * 4096 + c * 64 + d,
-        next: i + 4,
+        value: (lead % 16) as u32 * 4096 + b * 64 + c,
+        next: i + 3,
     }
 }
 

@@ -14,4 +14,6 @@ utf8-len-spec =
     (λ c κs. search needs)
     (λ c. search (lens, needs))
     (λ c. search (lens, needs))
+    (λ c κs. search needs)
+    (λ c. search (lens, needs))
     (λ c. search (lens, needs)))
