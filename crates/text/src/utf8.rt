@@ -209,7 +209,7 @@ fn larger(a: u8, b: u8) -> u8
     if a < b { b } else { a }
 }
 
-// The highest byte of a text. A turn has no branch, so that many bytes are looked at together.
+// The highest byte of a text. A turn only keeps the larger of two bytes, which the compiler does for many of them together.
 fn highest(text: &[u8]) -> u8
     ensures { λ r. ⌜ Below (r + 1) (now (text .entry)) ⌝ }
 {
