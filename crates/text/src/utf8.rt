@@ -74,7 +74,7 @@ fn has(s: &[u8], i: usize, low: u8, high: u8) -> bool
     }
 }
 
-// What decoding at a position finds.
+// What decoding at a position finds. The definitions of other crates name its cases.
 pub enum Step {
     // A well-formed sequence: its scalar value, and the position past it.
     Scalar { value: u32, next: usize },
@@ -85,7 +85,7 @@ pub enum Step {
 }
 
 // One well-formed sequence at a position, or the end of the maximal ill-formed part that is there. ASCII is answered at once.
-pub fn step_at(s: &[u8], at: usize) -> Step
+fn step_at(s: &[u8], at: usize) -> Step
     ensures { λ r. ⌜ r ≡ stepAt (now (s .entry)) at ⌝ }
 {
     if s.len() <= at {
