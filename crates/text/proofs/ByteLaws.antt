@@ -123,6 +123,8 @@ module _ (v : ℕ) where
       pub put-done : {e : ℕ} {d' : List ℕ} → (e ≡ at + length (utf8 v)) × (d' ≡ put d at (utf8 v)) → Places d at (encoded utf8 v) e d'
       put-done p = rw (encoded-is v is-written) (placed-whole d at (utf8 v) put-room (record { end = p .0; buffer = p .1 }))
 
+pub ruleset sizes-of = (size-1, size-2, size-3, size-4)
+
 pub ruleset lens = (len-1, len-2, len-none, len-3, len-4)
 
 pub ruleset scalar-tests = (scalar-below, scalar-above, scalar-gap)

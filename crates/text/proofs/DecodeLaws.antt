@@ -182,18 +182,20 @@ measure-start {us} r = record { reading = r; most = omega arith; so-far = from-n
 
 module _ {us : List ℕ} {bytes i : ℕ} (m : Measuring us bytes i) where
   module _ {x : UnitStep} (h : i < length us) (e : x ≡ unitStepAt us i) where
-    pub measure-turn : {v n l : ℕ} → x ≡ Scalar v n → (l ≡ length (encoded utf8 v)) × (l ≤ 4) → Measuring us (bytes + l) (i + n)
-    measure-turn {v} {n} {l} g z =
+    pub measure-size : {v n l : ℕ} → x ≡ Scalar v n → (l ≡ length (utf8 v)) × (l ≤ 4) → Measuring us (bytes + l) (i + n)
+    measure-size {v} {n} {l} g z =
         let f = found (m .reading) h e g in
-        let k : l ≡ length (utf8 v) = z .0 ∙ ap length (encoded-is v (is-scalar (f .scalar))) in
         record {
           reading = reads-on (m .reading) h e g;
           most = omega (arith, f .size, m .most);
           so-far =
               m .so-far
               ∙ ap (withRest bytes) (f .rest)
-              ∙ one-more bytes v (scalars16 (drop (i + n) us)) (ap (λ (b : ℕ). bytes + b) k);
+              ∙ one-more bytes v (scalars16 (drop (i + n) us)) (ap (λ (k : ℕ). bytes + k) (z .0));
         }
+
+    pub measure-turn : {v n l : ℕ} → x ≡ Scalar v n → (l ≡ length (encoded utf8 v)) × (l ≤ 4) → Measuring us (bytes + l) (i + n)
+    measure-turn {v} g z = measure-size g (z .0 ∙ ap length (encoded-is v (is-scalar (found (m .reading) h e g .scalar))), z .1)
 
     pub measure-stop : x ≡ Unpaired → lengthOf textLength.Unpaired ≡ Option·map length (textOf us)
     measure-stop g = sym (m .so-far ∙ ap (withRest bytes) (found-unpaired (m .reading) h e g))

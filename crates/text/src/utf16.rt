@@ -1,7 +1,7 @@
 // UTF-16 as the Unicode Standard, chapter 3, has it: one decoding step, and the UTF-8 text of code units.
 use crate::error::MatError;
 use crate::utf8::put_bytes;
-use crate::utf8::utf8_len;
+use crate::utf8::utf8_size;
 ghost use mathlib.Core.Path.{_≡_};
 ghost use mathlib.Core.Option.{Option·map};
 ghost use Prim.Native.Nat.{_<_};
@@ -72,7 +72,7 @@ fn text_length(units: &[u16]) -> TextLength
     while i < units.len() {
         match step_at(units, i) {
             UnitStep::Scalar { value, units: n } => {
-                bytes += utf8_len(value);
+                bytes += utf8_size(value);
                 i += n;
             }
             UnitStep::Unpaired => {

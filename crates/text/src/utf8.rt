@@ -229,6 +229,22 @@ fn is_scalar(value: u32) -> bool
     value < 0xD800 || 0xDFFF < value && value < 0x110000
 }
 
+// The number of bytes of a value that is known to be a scalar value: by its size alone.
+pub(crate) fn utf8_size(value: u32) -> usize
+    ensures { λ r. ⌜ (r ≡ length (utf8 value)) × (r ≤ 4) ⌝ }
+{
+    if value < 0x80 {
+        return 1;
+    }
+    if value < 0x800 {
+        return 2;
+    }
+    if value < 0x10000 {
+        return 3;
+    }
+    4
+}
+
 // The number of bytes of a scalar value, 0 for a number that is none.
 pub fn utf8_len(value: u32) -> usize
     ensures { λ r. ⌜ (r ≡ length (encoded utf8 value)) × (r ≤ 4) ⌝ }

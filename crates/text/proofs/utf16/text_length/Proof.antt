@@ -4,7 +4,7 @@ use Prim.Native.Nat.{_-_}
 use native.Mathlib.Omega.{arith}
 use borrow.Author.Needs.{needs}
 use lib.ListN.{length}
-use Rattle.text.proofs.DecodeLaws.{reads-start, step-less, Measuring, measure-start, measure-turn, measure-stop, measure-last}
+use Rattle.text.proofs.DecodeLaws.{reads-start, step-less, Measuring, measure-start, measure-size, measure-stop, measure-last}
 use Rattle.text.proofs.utf16.text_length.Statement.{statement}
 use Rattle.text.proofs.utf16.text_length.Tie as tie
 
@@ -18,7 +18,7 @@ loop-holds : tie.Need-loop-holds Inv-loop μ-loop
 loop-holds c = measure-start (reads-start _ (λ k. c .shared-slice-known .given k .fits))
 
 loop-again : tie.Need-loop-again Inv-loop μ-loop
-loop-again c = search (measure-turn, needs)
+loop-again c = search (measure-size, needs)
 
 -- the next index is inside the units
 add-i : tie.Need-add-i Inv-loop μ-loop
