@@ -17,17 +17,19 @@ use Rattle.text.specs.declared.utf8.UnitCount.{UnitCount}
 use Rattle.text.specs.declared.utf8.UnitCount.the-variants as count
 use Rattle.text.specs.declared.utf8.LossyReply.{LossyReply}
 use Rattle.text.specs.declared.utf8.LossyReply.the-variants as lossyReply
+use Rattle.text.specs.declared.utf8.Validity.{Validity}
+use Rattle.text.specs.declared.utf8.Validity.the-variants as validity
 use Rattle.text.specs.Buffer.{put, Puts, Places}
-use Rattle.text.specs.Replies.{CountsUnits, lossyLength, WritesLossy}
+use Rattle.text.specs.Replies.{validityPlace, CountsUnits, lossyLength, WritesLossy}
 use Rattle.text.specs.Result.{needPlace}
 use Rattle.text.specs.Unicode.{isScalar, utf8, utf8s}
-use Rattle.text.specs.Utf8.{Part, sequence, illFormed, stepAt, partsFrom, scalarsOf, firstIllFormed, repaired, replacedIn, lossy}
+use Rattle.text.specs.Utf8.{Part, sequence, illFormed, stepAt, partsFrom, scalarsOf, firstIllFormed, repaired, replacedIn, scalars8, lossy}
 use Rattle.text.proofs.BufferLaws.{SoFar, Splits, put-front, fits-next, goes-on, placed-not, placed-whole, fits-from, begins-from, ends-from}
 use Rattle.text.proofs.CountLaws.{valid-units, valid-place}
 use Rattle.text.proofs.LeadLaws.{ascii}
 use Rattle.text.proofs.PartLaws.{Advances, step-reads, step-breaks, step-end, parts-end, parts-scalar, parts-ill-formed, parts-rule}
 use Rattle.text.proofs.ScalarLaws.{scalar-is, is-scalar, utf8s-cons}
-use Rattle.text.proofs.Utf8Laws.{step-took, took-size, spelled, lossy-le}
+use Rattle.text.proofs.Utf8Laws.{step-took, took-size, not-some, spelled, lossy-le}
 
 -- what a step writes: the scalar value w, with k replaced parts
 pub record Writes (s : List ℕ) (i next w k : ℕ) : Type 0 where
@@ -206,6 +208,33 @@ unfolding firstIllFormed replacedIn
 no-replaced [] e = refl
 no-replaced (sequence v ∷ ps) e = no-replaced ps e
 no-replaced (illFormed i ∷ ps) e = let z : _≡_ {A = ℕ} 0 1 = cc in absurd (omega arith)
+
+broken-parts : (ps : List Part) → (replacedIn ps ≡ 0 → ⊥) → scalarsOf ps ≡ none
+unfolding replacedIn scalarsOf
+broken-parts [] n = absurd (n refl)
+broken-parts (sequence v ∷ ps) n = ap (Option·map (λ vs. v ∷ vs)) (broken-parts ps n)
+broken-parts (illFormed i ∷ ps) n = refl
+
+some-replaced : (ps : List Part) {i : ℕ} → some i ≡ firstIllFormed ps → replacedIn ps ≡ 0 → ⊥
+unfolding firstIllFormed replacedIn
+some-replaced [] e z = not-some (sym e)
+some-replaced (sequence v ∷ ps) e z = some-replaced ps e z
+some-replaced (illFormed j ∷ ps) e z = omega arith
+
+-- a text is well-formed, and so has scalar values, exactly where nothing is replaced, and `validate` tells it
+module _ (s : List ℕ) where
+  pub none-replaced : replacedIn (partsFrom s 0) ≡ 0 → scalars8 s ≡ some (repaired (partsFrom s 0))
+  none-replaced z = whole-parts (partsFrom s 0) z
+
+  pub part-replaced : (replacedIn (partsFrom s 0) ≡ 0 → ⊥) → scalars8 s ≡ none
+  part-replaced n = broken-parts (partsFrom s 0) n
+
+  module _ {x : Validity} (e : validityPlace x ≡ firstIllFormed (partsFrom s 0)) where
+    pub valid-scalars : x ≡ validity.WellFormed → scalars8 s ≡ some (repaired (partsFrom s 0))
+    valid-scalars g = none-replaced (no-replaced (partsFrom s 0) (sym (ap validityPlace g) ∙ e))
+
+    pub invalid-scalars : {i : ℕ} → x ≡ validity.IllFormed i → scalars8 s ≡ none
+    invalid-scalars g = part-replaced (some-replaced (partsFrom s 0) (sym (ap validityPlace g) ∙ e))
 
 -- ---- measuring by the count of code units, which finds the first ill-formed part
 

@@ -1,15 +1,15 @@
--- Document 01's number and place for each kind of failure.
+-- The number and place of documents 01 and 02 for each kind of failure.
 -- Assumes nothing.
 use Prim.Native.Nat.{ℕ}
 use Rattle.text.specs.declared.error.Failure.{Failure}
 use Rattle.text.specs.declared.error.MatError.{MatError}
-use Rattle.text.specs.declared.error.MatError.the-variants.{BlobTooLong, BlobTooShort, OffsetOutOfBounds, NameHeapTooEarly, OffsetsDescending, TooFewNames, PropertyBlockTruncated, ObjectIdOutOfRange, ClassIdOutOfRange, PropertyBlockIdOutOfRange, NameIndexOutOfRange, UnknownFieldType, InvalidDirectory, CellNotFound, UnexpectedCellKind, NotStringObject, OpaqueMetadataSize, OpaqueMetadataMagic, OpaqueMetadataDimensionsTruncated, OpaqueMetadataProductOverflow, OpaqueMetadataSizeMismatch, PayloadSize, PayloadVersion, PayloadDimensionsTruncated, PayloadProductOverflow, PayloadLengthsTruncated, PayloadLengthSumOverflow, PayloadUnitsTruncated, UnpairedSurrogate, InvalidText, ShapeMismatch, LimitExceeded, NotCanonical, OutputTooShort}
+use Rattle.text.specs.declared.error.MatError.the-variants.{BlobTooLong, BlobTooShort, OffsetOutOfBounds, NameHeapTooEarly, OffsetsDescending, TooFewNames, PropertyBlockTruncated, ObjectIdOutOfRange, ClassIdOutOfRange, PropertyBlockIdOutOfRange, NameIndexOutOfRange, UnknownFieldType, InvalidDirectory, CellNotFound, UnexpectedCellKind, NotStringObject, OpaqueMetadataSize, OpaqueMetadataMagic, OpaqueMetadataDimensionsTruncated, OpaqueMetadataProductOverflow, OpaqueMetadataSizeMismatch, PayloadSize, PayloadVersion, PayloadDimensionsTruncated, PayloadProductOverflow, PayloadLengthsTruncated, PayloadLengthSumOverflow, PayloadUnitsTruncated, UnpairedSurrogate, InvalidText, ShapeMismatch, LimitExceeded, NotCanonical, OutputTooShort, NameIllFormed}
 
 -- a check's number and its place
 abbrev at : ℕ → ℕ → Failure
 at n p = record { number = n; place = p }
 
--- the question's number in document 01, and its place
+-- the question's number in documents 01 and 02, and its place
 abbrev pub failureOf : MatError → Failure
 failureOf (BlobTooLong p) = at 1 p
 failureOf (BlobTooShort p) = at 2 p
@@ -45,3 +45,4 @@ failureOf (ShapeMismatch p) = at 31 p
 failureOf (LimitExceeded p) = at 32 p
 failureOf (NotCanonical p) = at 33 p
 failureOf (OutputTooShort p) = at 34 p
+failureOf (NameIllFormed p) = at 35 p

@@ -2,7 +2,7 @@
 ghost use mathlib.Core.Path.{_≡_};
 ghost use Rattle.text.specs.Errors.{failureOf};
 
-// The first check of a call that does not hold, with its place. Document 01's question N is the Nth kind.
+// The first check of a call that does not hold, with its place. Question N of documents 01 and 02 is the Nth kind.
 pub enum MatError {
     BlobTooLong(u64),
     BlobTooShort(u64),
@@ -38,9 +38,10 @@ pub enum MatError {
     LimitExceeded(u64),
     NotCanonical(u64),
     OutputTooShort(u64),
+    NameIllFormed(u64),
 }
 
-// The number of a check and its place, as document 01 counts them.
+// The number of a check and its place, as the documents count them.
 pub struct Failure {
     pub number: u32,
     pub place: u64,
@@ -85,6 +86,7 @@ impl MatError {
             MatError::LimitExceeded(place) => Failure { number: 32, place },
             MatError::NotCanonical(place) => Failure { number: 33, place },
             MatError::OutputTooShort(place) => Failure { number: 34, place },
+            MatError::NameIllFormed(place) => Failure { number: 35, place },
         }
     }
 }
