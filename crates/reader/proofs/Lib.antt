@@ -9,6 +9,7 @@ pub mod DecodeStringLaws
 pub mod FindLaws
 pub mod HeaderLaws
 pub mod LengthLaws
+pub mod LabelLaws
 pub mod LineLaws
 pub mod ListingLaws
 pub mod NameLaws

@@ -8,10 +8,10 @@ use native.Mathlib.Omega.{arith}
 use borrow.Author.Tests.{eq-eqb, ne-eqb, ltb-true, ltb-false, le-leb, lt-leb, leb-true}
 use lib.Dec.{eqb, leb, ltb}
 use lib.ListN.{length, getD, take, drop, length-drop, take-append-drop}
-use lib.Seq.{slice, slice-cons, slice-empty, append-snoc, take-take, drop-cons, getD-drop, drop-drop}
+use lib.Seq.{slice, slice-cons, slice-empty, length-slice, append-snoc, take-take, drop-cons, getD-drop, drop-drop}
 use Rattle.text.proofs.BufferLaws.{slice-more}
 use Rattle.text.proofs.TestLaws.{either}
-use Rattle.reader.specs.Names.{onto, pieces, piecesFrom, heapOf, nameBytes, zeros, Counted, Skips, HasPiece, Starts, FirstPiece, Standing, HasName, IsName}
+use Rattle.reader.specs.Names.{onto, pieces, piecesFrom, heapOf, nameBytes, lengthWithZeros, nameStart, zeros, Counted, Skips, HasPiece, Starts, FirstPiece, Standing, HasName, IsName}
 use Rattle.reader.specs.declared.names.Skipped.{Skipped}
 
 length-onto : (x : ℕ) (ps : List (List ℕ)) → 1 ≤ length ps → length (onto x ps) ≡ length ps
@@ -93,18 +93,17 @@ module _ {b : List ℕ} where
 -- k pieces begin before or at i, the last of them open there; the one that is looked for is index - k further on
 pub record Seeking (b : List ℕ) (e index k i : ℕ) : Type 0 where
   pub inside : e ≤ length b
-  pub after : 40 ≤ i
   pub bound : i ≤ e
   pub order : k ≤ index
   pub most : index - k < length (pieces (slice i e b))
-  pub is : getD (pieces (slice i e b)) (index - k) [] ≡ getD (pieces (heapOf b e)) (index - 1) []
+  pub rest : drop (index - k) (pieces (slice i e b)) ≡ drop (index - 1) (pieces (heapOf b e))
 
-onto-later : (x : ℕ) (ps : List (List ℕ)) (j : ℕ) → 1 ≤ length ps → getD (onto x ps) (suc j) [] ≡ getD ps (suc j) []
+onto-later : (x : ℕ) (ps : List (List ℕ)) (j : ℕ) → 1 ≤ length ps → drop (suc j) (onto x ps) ≡ drop (suc j) ps
 onto-later x [] j h = absurd (omega arith)
 onto-later x (p ∷ ps) j h = refl
 
--- a piece that begins after xs
-pieces-later : (xs ys : List ℕ) (j : ℕ) → getD (pieces (xs ++ ys)) (zeros xs + suc j) [] ≡ getD (pieces ys) (suc j) []
+-- the pieces that begin after xs
+pieces-later : (xs ys : List ℕ) (j : ℕ) → drop (zeros xs + suc j) (pieces (xs ++ ys)) ≡ drop (suc j) (pieces ys)
 unfolding pieces zeros
 pieces-later [] ys j =
     let z : 0 + suc j ≡ suc j = omega arith in
@@ -117,9 +116,13 @@ pieces-later (x ∷ xs) ys j =
     (λ e. simp e (rw z (pieces-later xs ys j)))
     (λ e. simp e (rw y (onto-later x (pieces (xs ++ ys)) (zeros xs + j) (pieces-some (xs ++ ys)) ∙ rw w at (pieces-later xs ys j))))
 
+from-here : (i : ℕ) (b : List ℕ) (e : ℕ) → i ≤ e → piecesFrom b e i ≡ pieces (slice i e b)
+unfolding piecesFrom
+from-here i b e h = simp (le-leb i e h)
+
 module _ {b : List ℕ} {e index : ℕ} where
   pub first-starts : HasPiece b e index → index ≡ 1 → Starts b e index 40
-  first-starts p z = rw z (record { inside = p .heap; after = omega arith; is = refl })
+  first-starts p z = rw z (record { inside = p .heap; stands = record { rest = from-here 40 b e (p .heap) } })
 
   pub seek-start : HasPiece b e index → (index ≡ 1 → ⊥) → {s : Skipped} → Skips b 40 e (index - 2) s → Seeking b e index (s .zeros + 1) (s .at)
   seek-start p m {s} k =
@@ -131,11 +134,10 @@ module _ {b : List ℕ} {e index : ℕ} where
       let z : index - 1 ≡ zeros xs + suc j = omega (arith, p .least, k .few, k .counted .is) in
       record {
         inside = p .inside;
-        after = k .counted .order;
         bound = k .bound;
         order = omega (arith, p .least, k .few);
         most = omega (arith, p .most, p .least, k .few, k .counted .is, ap length (ap pieces split), length-pieces (xs ++ ys), zeros-append xs ys, length-pieces ys);
-        is = rw (n, z, split) (sym (pieces-later xs ys j));
+        rest = rw (n, z, split) (sym (pieces-later xs ys j));
       }
 
   module _ {k i : ℕ} (s : Seeking b e index k i) where
@@ -167,11 +169,10 @@ module _ {b : List ℕ} {e index : ℕ} where
           let q : pieces (slice i e b) ≡ [] ∷ pieces (slice (i + 1) e b) = ap pieces cut ∙ pieces-zero (getD b i 0) (slice (i + 1) e b) z in
           record {
             inside = s .inside;
-            after = omega (arith, s .after);
             bound = omega arith;
             order = omega arith;
             most = omega (arith, s .most, ap length q);
-            is = sym (ap (λ (ps : List (List ℕ)). getD ps (suc (index - (k + 1))) []) q) ∙ sym (ap (λ (j : ℕ). getD (pieces (slice i e b)) j []) next-is) ∙ s .is;
+            rest = sym (ap (drop (suc (index - (k + 1)))) q) ∙ sym (ap (λ (j : ℕ). drop j (pieces (slice i e b))) next-is) ∙ s .rest;
           }
 
       pub seek-byte : (getD b i 0 ≡ 0 → ⊥) → Seeking b e index k (i + 1)
@@ -183,22 +184,21 @@ module _ {b : List ℕ} {e index : ℕ} where
           let l : length (pieces (slice i e b)) ≡ length r = ap length q ∙ length-onto (getD b i 0) r m in
           record {
             inside = s .inside;
-            after = omega (arith, s .after);
             bound = omega arith;
             order = s .order;
             most = omega (arith, s .most);
-            is =
-                ap (λ (j : ℕ). getD r j []) next-is
+            rest =
+                ap (λ (j : ℕ). drop j r) next-is
                 ∙ sym (onto-later (getD b i 0) r (index - (k + 1)) m)
-                ∙ sym (ap (λ (ps : List (List ℕ)). getD ps (suc (index - (k + 1))) []) q)
-                ∙ sym (ap (λ (j : ℕ). getD (pieces (slice i e b)) j []) next-is)
-                ∙ s .is;
+                ∙ sym (ap (drop (suc (index - (k + 1)))) q)
+                ∙ sym (ap (λ (j : ℕ). drop j (pieces (slice i e b))) next-is)
+                ∙ s .rest;
           }
 
     pub seek-last : index ≤ k → Starts b e index i
     seek-last h =
         let z : index - k ≡ 0 = omega arith in
-        record { inside = s .bound; after = s .after; is = ap (λ (j : ℕ). getD (pieces (slice i e b)) j []) (sym z) ∙ s .is }
+        record { inside = s .bound; stands = record { rest = from-here i b e (s .bound) ∙ ap (λ (j : ℕ). drop j (pieces (slice i e b))) (sym z) ∙ s .rest } }
 
 -- ---- where a piece ends
 
@@ -257,21 +257,6 @@ module _ {b : List ℕ} {start e : ℕ} where
         let z : i ≡ e = omega (arith, r .bound) in
         ends (simp (lt-leb (i + 1) e (omega arith)) (rw (z, slice-empty e b)))
 
--- ---- a name
-
-module _ {b : List ℕ} {e index : ℕ} (n : HasName b e index) where
-  pub name-empty : index ≡ 0 → IsName b e index (record { start = 40; end = 40 })
-  unfolding nameBytes
-  name-empty z = record { order = omega arith; inside = omega (arith, n .heap, n .inside); is = slice-empty 40 b ∙ sym (simp (eq-eqb index 0 z)) }
-
-  module _ (some : index ≡ 0 → ⊥) where
-    pub has-piece : HasPiece b e index
-    has-piece = record { heap = n .heap; inside = n .inside; least = omega arith; most = n .most }
-
-    pub name-found : {i j : ℕ} → Starts b e index i → FirstPiece b i e j → IsName b e index (record { start = i; end = j })
-    unfolding nameBytes
-    name-found s f = record { order = f .order; inside = omega (arith, f .inside, n .inside); is = sym (ap (λ (ps : List (List ℕ)). getD ps 0 []) (f .is)) ∙ s .is ∙ sym (simp (ne-eqb index 0 some)) }
-
 -- ---- walking the heap
 
 module _ {b : List ℕ} {e : ℕ} where
@@ -308,3 +293,96 @@ module _ {b : List ℕ} {e : ℕ} where
         stand-next =
             let z : x - 1 + 1 ≡ x + 1 - 1 = omega arith in
             record { rest = rw z at (ap (drop 1) here ∙ drop-drop 1 (x - 1) (pieces (heapOf b e))) }
+
+-- ---- where a piece begins
+
+lengths-append : (ps qs : List (List ℕ)) → lengthWithZeros (ps ++ qs) ≡ lengthWithZeros ps + lengthWithZeros qs
+unfolding lengthWithZeros
+lengths-append [] qs = omega arith
+lengths-append (p ∷ ps) qs = omega (arith, lengths-append ps qs)
+
+lengths-onto : (x : ℕ) (ps : List (List ℕ)) → 1 ≤ length ps → lengthWithZeros (onto x ps) ≡ lengthWithZeros ps + 1
+unfolding lengthWithZeros
+lengths-onto x [] h = absurd (omega arith)
+lengths-onto x (p ∷ ps) h = omega arith
+
+-- the last piece has no zero byte after it
+pub lengths-pieces : (xs : List ℕ) → lengthWithZeros (pieces xs) ≡ length xs + 1
+unfolding lengthWithZeros pieces
+lengths-pieces [] = refl
+lengths-pieces (x ∷ xs) =
+    let l = lengths-pieces xs in
+    either (eqb x 0) (λ e. simp e (omega arith)) (λ e. simp e (rw (lengths-onto x (pieces xs) (pieces-some xs)) (omega arith)))
+
+pub lengths-at : (ps : List (List ℕ)) (k : ℕ) → k < length ps → lengthWithZeros (take k ps) + length (getD ps k []) + 1 ≤ lengthWithZeros ps
+unfolding lengthWithZeros
+lengths-at [] k h = absurd (omega arith)
+lengths-at (p ∷ ps) zero h = omega arith
+lengths-at (p ∷ ps) (suc k) h = omega (arith, lengths-at ps k (omega arith))
+
+-- a later piece begins later
+pub lengths-less : (ps : List (List ℕ)) (j k : ℕ) → j < k → k ≤ length ps → lengthWithZeros (take j ps) < lengthWithZeros (take k ps)
+unfolding lengthWithZeros
+lengths-less ps j zero h l = absurd (omega arith)
+lengths-less [] j (suc k) h l = absurd (omega arith)
+lengths-less (p ∷ ps) zero (suc k) h l = omega arith
+lengths-less (p ∷ ps) (suc j) (suc k) h l = omega (arith, lengths-less ps j k (omega arith) (omega arith))
+
+-- piece k of xs lies after the pieces before it
+abbrev PieceAt : List ℕ → List (List ℕ) → ℕ → Type 0
+PieceAt xs ps k = take (length (getD ps k [])) (drop (lengthWithZeros (take k ps)) xs) ≡ getD ps k []
+
+module _ (x : ℕ) (xs : List ℕ) where
+  after-zero : (ps : List (List ℕ)) → ((k : ℕ) → k < length ps → PieceAt xs ps k) → (k : ℕ) → k < length ([] ∷ ps) → PieceAt (x ∷ xs) ([] ∷ ps) k
+  unfolding lengthWithZeros
+  after-zero ps each zero h = refl
+  after-zero ps each (suc k) h =
+      let z : 0 + 1 + lengthWithZeros (take k ps) ≡ suc (lengthWithZeros (take k ps)) = omega arith in
+      rw z (each k (omega arith))
+
+  in-piece : (ps : List (List ℕ)) → 1 ≤ length ps → ((k : ℕ) → k < length ps → PieceAt xs ps k) → (k : ℕ) → k < length (onto x ps) → PieceAt (x ∷ xs) (onto x ps) k
+  unfolding lengthWithZeros
+  in-piece [] m each k h = absurd (omega arith)
+  in-piece (p ∷ ps) m each zero h = ap (λ (q : List ℕ). x ∷ q) (each 0 (omega arith))
+  in-piece (p ∷ ps) m each (suc k) h =
+      let z : suc (length p) + 1 + lengthWithZeros (take k ps) ≡ suc (length p + 1 + lengthWithZeros (take k ps)) = omega arith in
+      rw z (each (suc k) (omega arith))
+
+pub piece-at : (xs : List ℕ) (k : ℕ) → k < length (pieces xs) → PieceAt xs (pieces xs) k
+unfolding pieces lengthWithZeros
+piece-at [] zero h = refl
+piece-at [] (suc k) h = absurd (omega arith)
+piece-at (x ∷ xs) k h =
+    let each : (k : ℕ) → k < length (pieces xs) → PieceAt xs (pieces xs) k = piece-at xs in
+    either (eqb x 0)
+    (λ t. simp t (after-zero x xs (pieces xs) each k (simp t at h)))
+    (λ t. simp t (in-piece x xs (pieces xs) (pieces-some xs) each k (simp t at h)))
+
+-- the pieces from i on leave their own length for those before them
+pub starts-place : {b : List ℕ} {e index i : ℕ} → 40 ≤ e → e ≤ length b → Starts b e index i → i ≡ nameStart b e index
+starts-place {b} {e} {index} {i} h l s =
+    let ps : List (List ℕ) = pieces (heapOf b e) in
+    let k : ℕ = index - 1 in
+    let whole = lengths-pieces (heapOf b e) in
+    let cut = ap lengthWithZeros (sym (take-append-drop k ps)) ∙ lengths-append (take k ps) (drop k ps) in
+    let rest = ap lengthWithZeros (sym (from-here i b e (s .inside)) ∙ s .stands .rest) in
+    omega (arith, whole, cut, rest, lengths-pieces (slice i e b), length-slice i e b l, length-slice 40 e b l, s .inside)
+
+-- ---- a name
+
+module _ {b : List ℕ} {e index : ℕ} (n : HasName b e index) where
+  pub name-empty : index ≡ 0 → IsName b e index (record { start = 40; end = 40 })
+  unfolding nameBytes
+  name-empty z = record { order = omega arith; inside = omega (arith, n .heap, n .inside); is = slice-empty 40 b ∙ sym (simp (eq-eqb index 0 z)); place = λ m. absurd (omega arith) }
+
+  module _ (some : index ≡ 0 → ⊥) where
+    pub has-piece : HasPiece b e index
+    has-piece = record { heap = n .heap; inside = n .inside; least = omega arith; most = n .most }
+
+    pub name-found : {i j : ℕ} → Starts b e index i → FirstPiece b i e j → IsName b e index (record { start = i; end = j })
+    name-found s f = record {
+      order = f .order;
+      inside = omega (arith, f .inside, n .inside);
+      is = stand-name (s .stands) (n .most) some f;
+      place = λ _. starts-place (n .heap) (n .inside) s;
+    }

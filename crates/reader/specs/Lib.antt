@@ -3,6 +3,7 @@ pub mod CellStages
 pub mod Cells
 pub mod Decode
 pub mod DecodeStages
+pub mod Labels
 pub mod Lines
 pub mod Names
 pub mod ObjectStages

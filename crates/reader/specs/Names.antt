@@ -5,7 +5,7 @@ use mathlib.Core.Path.{_≡_}
 use mathlib.Core.Bool.{cond}
 use mathlib.Core.List.{List, [], _∷_}
 use lib.Dec.{leb, eqb}
-use lib.ListN.{length, getD, drop}
+use lib.ListN.{length, getD, take, drop}
 use lib.Seq.{slice}
 use Rattle.text.specs.Utf8.{lossy}
 use Rattle.reader.specs.declared.names.Piece.{Piece}
@@ -32,6 +32,15 @@ heapOf b end = slice 40 end b
 -- "Index 0 is the empty name, index i is piece i"
 unfoldable pub nameBytes : List ℕ → ℕ → ℕ → List ℕ
 nameBytes b end i = cond (eqb i 0) [] (getD (pieces (heapOf b end)) (i - 1) [])
+
+-- the length of pieces, each with the zero byte after it
+unfoldable pub lengthWithZeros : List (List ℕ) → ℕ
+lengthWithZeros [] = 0
+lengthWithZeros (p ∷ ps) = length p + 1 + lengthWithZeros ps
+
+-- where piece i, from 1, begins in the blob: after the pieces before it
+abbrev pub nameStart : List ℕ → ℕ → ℕ → ℕ
+nameStart b end i = 40 + lengthWithZeros (take (i - 1) (pieces (heapOf b end)))
 
 -- the name as it is shown: "each maximal ill-formed part becomes EF BF BD"
 abbrev pub shownName : List ℕ → ℕ → ℕ → List ℕ
@@ -63,12 +72,6 @@ pub record HasPiece (b : List ℕ) (end index : ℕ) : Type 0 where
   pub least : 1 ≤ index
   pub most : index ≤ length (pieces (heapOf b end))
 
--- piece index begins at i
-pub record Starts (b : List ℕ) (end index i : ℕ) : Type 0 where
-  pub inside : i ≤ end
-  pub after : 40 ≤ i
-  pub is : getD (pieces (slice i end b)) 0 [] ≡ getD (pieces (heapOf b end)) (index - 1) []
-
 -- the first piece from start on ends at i, and the next one begins after it
 pub record FirstPiece (b : List ℕ) (start end i : ℕ) : Type 0 where
   pub order : start ≤ i
@@ -85,15 +88,21 @@ pub record HasName (b : List ℕ) (end index : ℕ) : Type 0 where
 pub record Standing (b : List ℕ) (end x start : ℕ) : Type 0 where
   pub rest : piecesFrom b end start ≡ drop (x - 1) (pieces (heapOf b end))
 
+-- there is piece index, and it begins at i
+pub record Starts (b : List ℕ) (end index i : ℕ) : Type 0 where
+  pub inside : i ≤ end
+  pub stands : Standing b end index i
+
 -- the bytes of a piece
 abbrev pub pieceBytes : List ℕ → Piece → List ℕ
 pieceBytes b p = slice (p .start) (p .end) b
 
--- the bytes of name index
+-- the bytes of name index, and for a stored one where they begin
 pub record IsName (b : List ℕ) (end index : ℕ) (p : Piece) : Type 0 where
   pub order : p .start ≤ p .end
   pub inside : p .end ≤ length b
   pub is : pieceBytes b p ≡ nameBytes b end index
+  pub place : 1 ≤ index → p .start ≡ nameStart b end index
 
 -- a piece lies in the blob, which is short enough for any sum of its bytes
 pub record InBlob (b : List ℕ) (p : Piece) : Type 0 where

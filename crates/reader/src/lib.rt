@@ -5,6 +5,7 @@ pub mod classes;
 pub mod decode;
 pub mod file_wrapper;
 pub mod find;
+pub mod labels;
 pub mod lines;
 pub mod names;
 pub mod objects;
