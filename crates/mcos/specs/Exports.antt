@@ -12,6 +12,9 @@ use Rattle.reader.specs.Queries.{intoOutput}
 use Rattle.reader.specs.Saveobj.{joined, spansFrom}
 use Rattle.reader.specs.SaveobjStages.{Counts, countsOf}
 use Rattle.reader.specs.declared.file_wrapper.FileWrapper.{FileWrapper}
+use Rattle.reader.specs.declared.labels.Part.{Part}
+use Rattle.reader.specs.declared.labels.Source.{Source}
+use Rattle.reader.specs.declared.labels.Source.the-variants as source
 use Rattle.reader.specs.declared.opaque.OpaqueMetadata.{OpaqueMetadata}
 use Rattle.store.specs.Edits.{storeAfter}
 use Rattle.store.specs.Store.{Store, storeOf}
@@ -63,6 +66,15 @@ abbrev pub layoutOf : FileWrapper → List ℕ
 layoutOf w =
     w .names ∷ w .classes ∷ w .records ∷ w .«saveobj_blocks» ∷ w .«normalobj_blocks»
     ∷ w .offsets .o0 ∷ w .offsets .o1 ∷ w .offsets .o2 ∷ w .offsets .o3 ∷ w .offsets .o4 ∷ w .offsets .o5 ∷ w .offsets .o6 ∷ w .offsets .o7 ∷ []
+
+-- "which buffer the part belongs to": 0 the blob, 1 the placeholder
+abbrev pub sourceCell : Source → ℕ
+sourceCell source.Blob = 0
+sourceCell source.Placeholder = 1
+
+-- the numbers of a label's part: buffer, first byte, length
+abbrev pub partCells : Part → List ℕ
+partCells p = sourceCell (p .source) ∷ p .start ∷ p .length ∷ []
 
 -- 1 where there is a position, else 0
 abbrev pub foundOf : Option ℕ → ℕ

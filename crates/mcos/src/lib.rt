@@ -6,6 +6,10 @@ use reader::file_wrapper::FileWrapper;
 use reader::file_wrapper::ParseReply;
 use reader::find;
 use reader::find::FindReply;
+use reader::labels;
+use reader::labels::LabelReply;
+use reader::labels::Part;
+use reader::labels::Source;
 use reader::names;
 use reader::names::NameReply;
 use reader::objects;
@@ -40,6 +44,7 @@ ghost use Rattle.writer.specs.FileWrapper.{buildMetadata};
 ghost use Rattle.writer.specs.Metadata.{objectMetadata};
 ghost use Rattle.writer.specs.Replies.{lengthReplyOf, measuredPayload};
 ghost use Rattle.reader.specs.Decode.{metadataStrings, objectStrings};
+ghost use Rattle.reader.specs.Labels.{labelOf};
 ghost use Rattle.reader.specs.Objects.{findProperty, objectRows, objectTriples, rowOf};
 ghost use Rattle.reader.specs.Opaque.{opaqueMetadata};
 ghost use Rattle.reader.specs.Opening.{opened};
@@ -49,7 +54,7 @@ ghost use Rattle.reader.specs.Saveobj.{decodePayload, intoStrings};
 ghost use Rattle.reader.specs.SaveobjStages.{stringsReplyOf};
 ghost use Rattle.store.specs.Edits.{appended, replaced};
 ghost use Rattle.store.specs.Replies.{editReplyOf};
-ghost use Rattle.mcos.specs.Exports.{countCells, editCells, layoutOf, opaqueCells, storeIn, Exports, ExportsEdit, ExportsFound, ExportsList, ExportsLossy, ExportsStrings};
+ghost use Rattle.mcos.specs.Exports.{countCells, editCells, layoutOf, opaqueCells, partCells, sourceCell, storeIn, Exports, ExportsEdit, ExportsFound, ExportsList, ExportsLossy, ExportsStrings};
 
 // Writes the place of a failure and gives its number.
 fn put_error(e: MatError, place: &mut u64) -> u32
@@ -292,6 +297,44 @@ pub extern "C" fn mcos_name(
     ensures { λ r. ⌜ ExportsList (λ x. x) (intoOutput (nameText (now (blob .entry)) index)) (now (text .entry)) (now (bytes .entry)) (now (place .entry)) r (now (text .exit)) (now (bytes .exit)) (now (place .exit)) ⌝ }
 {
     put_name(names::name(blob, index, text), bytes, place)
+}
+
+// The cell of a part's buffer.
+fn source_cell(source: Source) -> u64
+    ensures { λ r. ⌜ r ≡ sourceCell source ⌝ }
+{
+    match source {
+        Source::Blob => 0,
+        Source::Placeholder => 1,
+    }
+}
+
+fn part_cells(part: Part) -> [u64; 3]
+    ensures { λ r. ⌜ r ≡ partCells part ⌝ }
+{
+    let source = part.source;
+    [source_cell(source), part.start as u64, part.length as u64]
+}
+
+#[no_mangle]
+pub extern "C" fn mcos_label(
+    blob: &[u8],
+    placeholder: &[u8],
+    index: u32,
+    part: &mut [u64; 3],
+    place: &mut u64,
+) -> u32
+    ensures { λ r. ⌜ (
+        let m = labelOf (now (blob .entry)) (now (placeholder .entry)) index in
+        Exports partCells m (now (part .entry)) (now (place .entry)) r (now (part .exit)) (now (place .exit))) ⌝ }
+{
+    match labels::label_source(blob, placeholder, index) {
+        LabelReply::Part(p) => {
+            *part = part_cells(p);
+            0
+        }
+        LabelReply::Error(e) => put_error(e, place),
+    }
 }
 
 #[no_mangle]
