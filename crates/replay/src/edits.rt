@@ -84,7 +84,17 @@ fn edit_store(
     }
 }
 
-// Whether the store after an edit is still the one that the line lends.
+// Whether the counts after an edit are those that the line lends.
+fn are_counts_kept(line: &[u8], edited: Edited) -> bool {
+    let CountsReply::Counts(counts) = read_counts(line) else {
+        return false;
+    };
+    edited.objects == counts.objects
+        && edited.blob_bytes == counts.blob_bytes
+        && edited.words == counts.words
+}
+
+// Whether the store after an edit is still the one that the line lends. It is read again, since a field may be in shorthand.
 fn is_kept(
     line: &[u8],
     edited: Edited,
@@ -93,18 +103,24 @@ fn is_kept(
     kinds: &[u8],
     words: &[u64],
 ) -> bool {
-    let store: &mut [u8] = &mut io::buffer();
-    let n = render::lent(
-        edited.objects,
-        edited.blob_bytes,
-        edited.words,
-        blob,
-        directory,
-        kinds,
-        words,
-        store,
-    );
-    fields::says(line, 1, store, n)
+    let lent_blob: &mut [u8] = &mut io::buffer();
+    let lent_directory: &mut [u64] = &mut fields::words_buffer();
+    let lent_kinds: &mut [u8] = &mut io::buffer();
+    let lent_words: &mut [u64] = &mut fields::words_buffer();
+    let StoreLengths::Of {
+        blob_bytes,
+        entries,
+        kind_bytes,
+        word_count,
+    } = fields::store(line, lent_blob, lent_directory, lent_kinds, lent_words)
+    else {
+        return false;
+    };
+    are_counts_kept(line, edited)
+        && fields::same(blob, fields::part(lent_blob, 0, blob_bytes))
+        && fields::same_words(directory, fields::first_words(lent_directory, entries))
+        && fields::same(kinds, fields::part(lent_kinds, 0, kind_bytes))
+        && fields::same_words(words, fields::first_words(lent_words, word_count))
 }
 
 // Holds an edit to what the line says from the given field on: the store after it where it was accepted, else the refusal, which must leave

@@ -1,4 +1,6 @@
 // The fields of a line, parted by single spaces, and the numbers in them.
+use writer::string_object::LengthReply;
+use writer::string_object::build_string_filewrapper_metadata;
 ghost use mathlib.Core.Path.{_≡_};
 ghost use Prim.Native.Nat.{_<_, _≤_};
 ghost use lib.ListN.{length};
@@ -33,6 +35,7 @@ pub enum ArrayLengths {
 // The index of the first byte that is `wanted`, from index start on, or the length where there is none.
 fn find(text: &[u8], start: usize, wanted: u8) -> usize
     ensures { λ r. ⌜ r ≤ length (now (text .entry)) ⌝ }
+    ensures { λ r. ⌜ (start ≤ length (now (text .entry)) → start ≤ r) ⌝ }
 {
     let mut i = start;
     while i < text.len() {
@@ -151,6 +154,20 @@ pub fn same(a: &[u8], b: &[u8]) -> bool {
     a.len() == b.len() && starts_with(a, b)
 }
 
+pub fn same_words(a: &[u64], b: &[u64]) -> bool {
+    if a.len() != b.len() {
+        return false;
+    }
+    let mut i = 0;
+    while i < a.len() {
+        if a[i] != b[i] {
+            return false;
+        }
+        i += 1;
+    }
+    true
+}
+
 // The value of a digit, 16 for a byte that is none.
 fn digit(byte: u8) -> u8 {
     match byte {
@@ -187,14 +204,12 @@ pub fn decimal(field: &[u8]) -> Number {
     value_of(field, 10)
 }
 
-// Bytes of two digits, or `-` for none: how many there are, written to the start of out.
-pub fn bytes(field: &[u8], out: &mut [u8]) -> Number {
-    if same(field, b"-") {
-        return Number::Value(0);
-    }
-    let mut n = 0;
+// Bytes of two digits, at least one, written to out from an index on: the index after them.
+fn put_hex(digits: &[u8], out: &mut [u8], at: usize) -> Number {
+    let mut n = at;
+    let mut i = 0;
     while n < out.len() {
-        let Number::Value(byte) = value_of(part(field, 2 * n, 2 * n + 2), 16) else {
+        let Number::Value(byte) = value_of(part(digits, i, i + 2), 16) else {
             return Number::Unreadable;
         };
         if 0xFF < byte {
@@ -202,11 +217,76 @@ pub fn bytes(field: &[u8], out: &mut [u8]) -> Number {
         }
         out[n] = byte as u8;
         n += 1;
-        if 2 * n == field.len() {
+        i += 2;
+        if i == digits.len() {
             return Number::Value(n);
         }
     }
     Number::Unreadable
+}
+
+// The same a number of times, at least once.
+fn put_times(digits: &[u8], times: usize, out: &mut [u8], at: usize) -> Number {
+    if times == 0 {
+        return Number::Unreadable;
+    }
+    let mut n = at;
+    let mut left = times;
+    while 0 < left {
+        let Number::Value(next) = put_hex(digits, out, n) else {
+            return Number::Unreadable;
+        };
+        n = next;
+        left -= 1;
+    }
+    Number::Value(n)
+}
+
+// The blob for a number of objects, in the same way. It lies within out, so the sum does not wrap.
+fn put_blob(digits: &[u8], out: &mut [u8], at: usize) -> Number {
+    let Number::Value(objects) = decimal(digits) else {
+        return Number::Unreadable;
+    };
+    if out.len() < at {
+        return Number::Unreadable;
+    }
+    match build_string_filewrapper_metadata(objects as u64, &mut out[at..]) {
+        LengthReply::Length(n) => Number::Value(std::num::wrapping_add_usize(at, n)),
+        LengthReply::Error(_) => Number::Unreadable,
+    }
+}
+
+// A part of bytes: hexadecimal, `xx*n` for n times those bytes, or `Bn` for the blob for n objects.
+fn put_part(text: &[u8], out: &mut [u8], at: usize) -> Number {
+    if starts_with(text, b"B") {
+        return put_blob(part(text, 1, text.len()), out, at);
+    }
+    let star = find(text, 0, b'*');
+    if star == text.len() {
+        return put_hex(text, out, at);
+    }
+    let Number::Value(times) = decimal(part(text, star + 1, text.len())) else {
+        return Number::Unreadable;
+    };
+    put_times(part(text, 0, star), times, out, at)
+}
+
+// Bytes in parts with `+` between them, or `-` for none: how many there are, written to the start of out.
+pub fn bytes(field: &[u8], out: &mut [u8]) -> Number {
+    if same(field, b"-") {
+        return Number::Value(0);
+    }
+    let mut n = 0;
+    let mut start = 0;
+    while start <= field.len() {
+        let end = find(field, start, b'+');
+        let Number::Value(next) = put_part(part(field, start, end), out, n) else {
+            return Number::Unreadable;
+        };
+        n = next;
+        start = end + 1;
+    }
+    Number::Value(n)
 }
 
 // Code units with commas between them, or `-` for none: how many there are, written to the start of out.

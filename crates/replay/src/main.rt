@@ -2,6 +2,7 @@
 mod calls;
 mod edits;
 mod fields;
+mod labels;
 mod render;
 
 use calls::Verdict;
@@ -41,15 +42,18 @@ const APPENDTO: usize = 14;
 
 const REPLACEIN: usize = 15;
 
-const OTHER: usize = 16;
+const LABEL: usize = 16;
 
-const KINDS: usize = 17;
+const OTHER: usize = 17;
+
+const KINDS: usize = 18;
 
 // The names of the calls in the order of their numbers.
-const NAMES: [u8; 106] =
-    *b"utf16 lossy write build open name class wordlist props find payload road1 road2 objects appendto replacein";
+const NAMES: [u8; 112] =
+    *b"utf16 lossy write build open name class wordlist props find payload road1 road2 objects appendto replacein label";
 
-// The longest line. No answer is longer than its line, so the calls have buffers of as many elements.
+// The longest line. No answer is longer than its line, so the calls have buffers of as many elements. An argument in shorthand that does
+// not fit one is unreadable.
 const LINE: usize = 4096;
 
 fn has_name(call: usize, name: &[u8]) -> bool {
@@ -98,6 +102,7 @@ fn replay(line: &[u8], seen: &mut [u64; KINDS], agreed: &mut [u64; KINDS]) {
         OBJECTS => calls::objects(line),
         APPENDTO => edits::appendto(line),
         REPLACEIN => edits::replacein(line),
+        LABEL => labels::label(line),
         _ => Verdict::Unknown,
     };
     count(seen, call);

@@ -1,5 +1,7 @@
 // Our answer as a line has it, from `=` to `#`, in a buffer. A function that takes an index writes from there on, and returns the
 // index after what it wrote. What does not fit is dropped: the buffer is as long as the longest line, so no line holds such an answer.
+use reader::labels::Part;
+use reader::labels::Source;
 use reader::objects::ObjectRow;
 use text::error::MatError;
 ghost use Prim.Native.Nat.{_≤_};
@@ -276,21 +278,33 @@ pub fn edited(
     word(b" #", out, at)
 }
 
-// A store as a line lends it: its buffers, then its counts, with the space after them.
-pub fn lent(
-    objects: u64,
-    blob_bytes: u64,
-    used: u64,
-    blob: &[u8],
-    directory: &[u64],
-    kinds: &[u8],
-    cells: &[u64],
-    out: &mut [u8],
-) -> usize {
-    let at = buffers(blob, directory, kinds, cells, out, 0);
+fn buffer_name(source: Source, out: &mut [u8], at: usize) -> usize {
+    match source {
+        Source::Blob => word(b"blob", out, at),
+        Source::Placeholder => word(b"placeholder", out, at),
+    }
+}
+
+// Where a part lies: its buffer, its first byte there, and its length.
+fn place(part: Part, out: &mut [u8], at: usize) -> usize {
+    let source = part.source;
+    let at = buffer_name(source, out, at);
     let at = word(b" ", out, at);
-    let at = three(objects, blob_bytes, used, out, at);
-    word(b" ", out, at)
+    let at = decimal(part.start as u64, out, at);
+    let at = word(b" ", out, at);
+    decimal(part.length as u64, out, at)
+}
+
+// A label, and where it was said to lie. One of another length agrees with no line.
+pub fn label(label: &[u8], part: Part, out: &mut [u8]) -> usize {
+    if label.len() != part.length {
+        return word(b"overrun", out, 0);
+    }
+    let at = word(b"= ok ", out, 0);
+    let at = place(part, out, at);
+    let at = word(b" ", out, at);
+    let at = bytes(label, label.len(), out, at);
+    word(b" #", out, at)
 }
 
 // A refusal. One that wrote to a buffer agrees with no line.

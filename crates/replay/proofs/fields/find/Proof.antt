@@ -1,13 +1,13 @@
 -- `replay::fields::find` meets its contract.
 -- Assumes nothing.
-use Prim.Native.Nat.{_-_}
+use Prim.Native.Nat.{_≤_, _-_}
 use borrow.Author.Needs.{needs}
 use lib.ListN.{length}
 use Rattle.replay.proofs.fields.find.Statement.{statement}
 use Rattle.replay.proofs.fields.find.Tie as tie
 
 abbrev Inv-loop : tie.InvT-loop
-Inv-loop text start wanted i₀ i = Unit {0}
+Inv-loop text start wanted i₀ i = start ≤ i
 
 abbrev μ-loop : tie.MeasureT-loop
 μ-loop text start wanted i₀ i = length text - i
