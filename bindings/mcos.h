@@ -6,7 +6,7 @@
  *   0        accepted. The cells of the call's values and the front of its buffers are
  *            written. *place keeps what it held, and so does each buffer beyond the answer
  *            (an edit of a store also clears the words that the store gives up).
- *   1 .. 34  refused: the number of the first check that does not hold. *place is written
+ *   1 .. 35  refused: the number of the first check that does not hold. *place is written
  *            with where it does not hold. Nothing else is: every other cell and every
  *            buffer keeps what it held.
  *
@@ -75,6 +75,8 @@
  *   32  at most 2,097,152 words; at most 349,522 objects         the words; the objects
  *   33  the store is in written form (see Edits below)           0
  *   34  each output is long enough                               the need of the first that is not
+ *   Labels
+ *   35  the name is well-formed UTF-8                            the index
  */
 #ifndef MCOS_H
 #define MCOS_H
@@ -116,6 +118,16 @@ typedef struct mcos_object_row {
     uint32_t block_id;
     uint32_t property_count;
 } mcos_object_row;
+
+/* The buffers that a label's part may belong to. */
+enum { MCOS_SOURCE_BLOB = 0, MCOS_SOURCE_PLACEHOLDER = 1 };
+
+/* A part of a lent buffer: which buffer, its first byte there, and how many bytes. */
+typedef struct mcos_part {
+    uint64_t source;
+    uint64_t start;
+    uint64_t length;
+} mcos_part;
 
 /* The counts of a store: its objects, the bytes of its blob, and the words of its payloads. */
 typedef struct mcos_counts {
@@ -189,6 +201,19 @@ uint32_t mcos_parse(const uint8_t *blob, uintptr_t blob_len,
 uint32_t mcos_name(const uint8_t *blob, uintptr_t blob_len, uint32_t index,
                    uint8_t *text, uintptr_t text_len,
                    uint64_t *bytes, uint64_t *place);
+
+/* The label of a name index: the name's own bytes where they lie in the blob, or the whole
+ * placeholder where the name is empty, by index 0 or as it is stored. Nothing is copied, so the
+ * name must be well-formed as it stands. The placeholder's bytes are not looked at.
+ * Checks: 1 to 7, 11, 35.
+ * Accepted: *part. Its part.length bytes begin at
+ *
+ *   (part.source == MCOS_SOURCE_BLOB ? blob : placeholder) + part.start
+ *
+ * Refused: *part is kept, and the label is the placeholder's first 0 bytes. */
+uint32_t mcos_label(const uint8_t *blob, uintptr_t blob_len,
+                    const uint8_t *placeholder, uintptr_t placeholder_len, uint32_t index,
+                    mcos_part *part, uint64_t *place);
 
 /* The name of a class: namespace, full stop, name; the name alone where the namespace's index
  * is 0.

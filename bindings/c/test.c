@@ -158,6 +158,50 @@ static void blob_calls(void)
     CHECK(found == 0 && a == KEPT);
 }
 
+static int is_part(mcos_part part, uint64_t source, uint64_t start, uint64_t length)
+{
+    return part.source == source && part.start == start && part.length == length;
+}
+
+static void label_calls(void)
+{
+    /* Five names, and a piece that is not declared: "pkg", "", "pkg", an ill-formed one, U+FFFD. */
+    const uint32_t header[] = {4, 5, 56, 56, 56, 56, 56, 56, 56, 56};
+    const uint8_t heap[] = "pkg\0\0pkg\0a\xFF\0\xEF\xBF\xBD", none[] = {'-', 0xFF};
+    uint8_t named[56];
+    memcpy(named, header, sizeof header);
+    memcpy(named + 40, heap, sizeof heap);
+
+    mcos_part part;
+    KEEP(part), fresh();
+    CHECK(refused(mcos_label(named, 39, none, 2, 0, &part, &place), 2, 39));
+    CHECK(refused(mcos_label(named, 55, none, 2, 0, &part, &place), 3, 0));
+    CHECK(refused(mcos_label(named, 56, none, 2, 6, &part, &place), 11, 6));
+    CHECK(refused(mcos_label(named, 56, none, 2, UINT32_MAX, &part, &place), 11, UINT32_MAX));
+    CHECK(refused(mcos_label(named, 56, none, 2, 4, &part, &place), 35, 4));
+    CHECK(IS_KEPT(part));
+
+    /* Equal names are different parts. */
+    fresh();
+    CHECK(accepted(mcos_label(named, 56, none, 2, 1, &part, &place)) && is_part(part, MCOS_SOURCE_BLOB, 40, 3));
+    KEEP(part), fresh();
+    CHECK(accepted(mcos_label(named, 56, none, 2, 3, &part, &place)) && is_part(part, MCOS_SOURCE_BLOB, 45, 3));
+    const uint8_t *label = (part.source == MCOS_SOURCE_BLOB ? named : none) + part.start;
+    CHECK(label == named + 45 && memcmp(label, "pkg", part.length) == 0);
+    KEEP(part), fresh();
+    CHECK(accepted(mcos_label(named, 56, none, 2, 5, &part, &place)) && is_part(part, MCOS_SOURCE_BLOB, 52, 3));
+
+    /* The empty name, by index 0 and as it is stored; a placeholder of 0 bytes. */
+    KEEP(part), fresh();
+    CHECK(accepted(mcos_label(named, 56, none, 2, 0, &part, &place)) && is_part(part, MCOS_SOURCE_PLACEHOLDER, 0, 2));
+    label = (part.source == MCOS_SOURCE_BLOB ? named : none) + part.start;
+    CHECK(label == none);
+    KEEP(part), fresh();
+    CHECK(accepted(mcos_label(named, 56, none, 2, 2, &part, &place)) && is_part(part, MCOS_SOURCE_PLACEHOLDER, 0, 2));
+    KEEP(part), fresh();
+    CHECK(accepted(mcos_label(named, 56, none, 0, 2, &part, &place)) && is_part(part, MCOS_SOURCE_PLACEHOLDER, 0, 0));
+}
+
 static void listing_calls(void)
 {
     mcos_object_row rows[3];
@@ -308,6 +352,7 @@ int main(void)
     text_calls();
     writing_calls();
     blob_calls();
+    label_calls();
     listing_calls();
     string_calls();
     edit_calls();

@@ -25,7 +25,7 @@ macro_rules! kinds {
         }
 
         impl MatError {
-            /// The number of the check, from 1 to 34.
+            /// The number of the check, from 1 to 35.
             pub const fn number(self) -> u32 {
                 match self {
                     $(Self::$kind(_) => $number,)*
@@ -39,7 +39,7 @@ macro_rules! kinds {
                 }
             }
 
-            /// The kind of a number; `None` for a number outside 1 to 34.
+            /// The kind of a number; `None` for a number outside 1 to 35.
             pub const fn new(number: u32, place: u64) -> Option<Self> {
                 match number {
                     $($number => Some(Self::$kind(place)),)*
@@ -139,6 +139,8 @@ kinds! {
     33 NotCanonical: "the store is not in written form",
     /// A buffer is too short. Place: the length that the first short one needs.
     34 OutputTooShort: "a buffer is too short",
+    /// The name of a label is not well-formed UTF-8. Place: its index.
+    35 NameIllFormed: "the name is not well-formed UTF-8",
 }
 
 impl fmt::Display for MatError {
@@ -154,6 +156,6 @@ impl std::error::Error for MatError {}
 pub(crate) fn answer<T>(number: u32, place: u64, values: T) -> Result<T, MatError> {
     match number {
         0 => Ok(values),
-        _ => Err(MatError::new(number, place).expect("a call answers 0 to 34")),
+        _ => Err(MatError::new(number, place).expect("a call answers 0 to 35")),
     }
 }

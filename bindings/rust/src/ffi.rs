@@ -13,6 +13,25 @@
 
 use crate::{Counts, FileWrapper, ObjectRow, Property};
 
+/// A part of a lent buffer.
+#[repr(C)]
+#[derive(Debug, Clone, Copy, Default, PartialEq, Eq)]
+pub struct Part {
+    /// Which buffer: [`Self::BLOB`] or [`Self::PLACEHOLDER`].
+    pub source: u64,
+    /// Its first byte there.
+    pub start: u64,
+    /// How many bytes.
+    pub length: u64,
+}
+
+impl Part {
+    /// The part belongs to the blob.
+    pub const BLOB: u64 = 0;
+    /// The part belongs to the placeholder.
+    pub const PLACEHOLDER: u64 = 1;
+}
+
 // The signatures are the whole of it; the safe functions carry the words.
 #[allow(missing_docs)]
 unsafe extern "C" {
@@ -83,6 +102,16 @@ unsafe extern "C" {
         text: *mut u8,
         text_len: usize,
         bytes: *mut u64,
+        place: *mut u64,
+    ) -> u32;
+
+    pub fn mcos_label(
+        blob: *const u8,
+        blob_len: usize,
+        placeholder: *const u8,
+        placeholder_len: usize,
+        index: u32,
+        part: *mut Part,
         place: *mut u64,
     ) -> u32;
 

@@ -7,6 +7,8 @@
 //!   answer keeps its content.
 //! - A refused call gives a [`MatError`]: the number of the check that does not
 //!   hold, and its place. Its buffers keep what they held.
+//! - [`label`] writes nothing: it gives a part of what it is lent, and
+//!   [`label_source`] the refusal.
 //!
 //! A list of strings is one text and spans, two values a string: offset and
 //! length in bytes, each span at or after the end of the one before it.
@@ -50,6 +52,7 @@ mod blob;
 mod edits;
 mod error;
 pub mod ffi;
+mod labels;
 mod objects;
 mod strings;
 mod text;
@@ -61,6 +64,7 @@ pub use blob::{
 };
 pub use edits::{Array, Buffers, Counts, append, replace};
 pub use error::MatError;
+pub use labels::{Label, Source, label, label_source};
 pub use objects::list_objects;
 pub use strings::{
     Cells, OpaqueMetadata, Strings, decode_string, decode_string_object, decode_string_saveobj,

@@ -1,7 +1,8 @@
 //! The cells of the C interface: an accepted call keeps the place, a refused
 //! one keeps the values.
 
-use mcos::{FileWrapper, Property, ffi};
+use mcos::ffi::{self, Part};
+use mcos::{FileWrapper, Property};
 
 const KEPT: u64 = 0xA5A5_A5A5_A5A5_A5A5;
 const KEPT_32: u32 = 0xA5A5_A5A5;
@@ -126,6 +127,33 @@ fn names() {
     refuses(8, 2, |a, _, place| unsafe {
         of(blob, 192, 2, text, 8, a, place)
     });
+}
+
+#[test]
+fn labels() {
+    let blob = built();
+    let kept = Part {
+        source: KEPT,
+        start: KEPT,
+        length: KEPT,
+    };
+    let call = |blob: &[u8; 192], index| {
+        let (mut part, mut place) = (kept, KEPT);
+        let (blob, none) = (blob.as_ptr(), b"none".as_ptr());
+        let number = unsafe { ffi::mcos_label(blob, 192, none, 4, index, &mut part, &mut place) };
+        (number, part, place)
+    };
+    let part = |source, start, length| Part {
+        source,
+        start,
+        length,
+    };
+    assert_eq!(call(&blob, 0), (0, part(Part::PLACEHOLDER, 0, 4), KEPT));
+    assert_eq!(call(&blob, 2), (0, part(Part::BLOB, 44, 6), KEPT));
+    assert_eq!(call(&blob, 3), (11, kept, 3));
+    let mut damaged = blob;
+    damaged[44] = 0xFF;
+    assert_eq!(call(&damaged, 2), (35, kept, 2));
 }
 
 #[test]
