@@ -146,7 +146,14 @@ impl Outcome {
         let Self { left, cells, .. } = self;
         let given_up = left.counts.words..before.counts.words;
         match (fault, self.answer) {
-            (Fault::Value, Ok(())) => left.counts.objects += 1,
+            (Fault::Value(i), Ok(())) => {
+                let Counts {
+                    objects,
+                    blob_bytes,
+                    words,
+                } = &mut left.counts;
+                *[objects, blob_bytes, words][i] += 1;
+            }
             (Fault::Written, Ok(())) => left.store.words[0] ^= 1,
             (Fault::Kept, _) => return change_last(left),
             (Fault::GivenUp, Ok(())) if !given_up.is_empty() => {

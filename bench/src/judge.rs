@@ -4,7 +4,7 @@ use mcos::MatError;
 use oracle::Refusal;
 
 use crate::lent::{Lengths, Lent, Room, Written};
-use crate::library::{Cells, KEPT, Reply, Values};
+use crate::library::{Cells, KEPT, Part, Reply, Values};
 use crate::rules::{self, Limit, Rule};
 use crate::tally::{Kind, Tally};
 
@@ -37,8 +37,8 @@ pub(crate) enum Agreement {
 /// A change to the library's answers, which the comparison must report.
 #[derive(Debug, Clone, Copy, PartialEq, Eq)]
 pub enum Fault {
-    /// A value of an accepted answer is one more.
-    Value,
+    /// The value at this position of an accepted answer is one more.
+    Value(usize),
     /// The first written element is another one.
     Written,
     /// The last lent element is written to: a part that must be kept, except
@@ -56,12 +56,16 @@ pub enum Fault {
     PlaceCell,
     /// A call writes a cell that it must keep.
     KeptCell,
+    /// The slice of a label lies one byte further on.
+    Part,
 }
 
 impl Fault {
     /// All of them.
-    pub const ALL: [Self; 9] = [
-        Self::Value,
+    pub const ALL: [Self; 12] = [
+        Self::Value(0),
+        Self::Value(1),
+        Self::Value(2),
         Self::Written,
         Self::Kept,
         Self::GivenUp,
@@ -70,6 +74,7 @@ impl Fault {
         Self::Number,
         Self::PlaceCell,
         Self::KeptCell,
+        Self::Part,
     ];
 
     /// Puts the fault into a reply or its buffers; false if it has no place
@@ -77,9 +82,9 @@ impl Fault {
     fn put(self, reply: &mut Reply, room: Room<'_>) -> bool {
         let accepted = reply.answer.is_ok();
         match (self, &mut reply.answer) {
-            (Self::Value, Ok(values)) => {
-                values[0] = values[0].wrapping_add(1);
-                reply.cells.values[0] = values[0];
+            (Self::Value(i), Ok(values)) if values[i] != KEPT => {
+                values[i] = values[i].wrapping_add(1);
+                reply.cells.values[i] = values[i];
             }
             (Self::Written, Ok(_)) => return change(room, |len| (len > 0).then_some(0)),
             (Self::Kept, _) => return change(room, |len| len.checked_sub(1)),
@@ -89,6 +94,10 @@ impl Fault {
             (Self::PlaceCell, Err(_)) => reply.cells.place ^= 1,
             (Self::KeptCell, _) if accepted => reply.cells.place = 0,
             (Self::KeptCell, _) => reply.cells.values[0] = 0,
+            (Self::Part, _) => match &mut reply.part {
+                Some(part) => part.given.0 += 1,
+                None => return false,
+            },
             _ => return false,
         }
         if matches!(self, Self::Refuses | Self::Accepts | Self::Number) {
@@ -202,7 +211,8 @@ impl Judge {
             }
             Rust::Lacks(expected) => {
                 let error = self.refused(call)?;
-                let rule = rules::lacking(expected, error);
+                let limit = || rules::limit(case.limits, error);
+                let rule = rules::lacking(expected, error).or_else(limit);
                 let differs = || format!("{error}; the rule gives {expected}");
                 rule.map(Agreement::Explained).ok_or_else(differs)
             }
@@ -256,9 +266,9 @@ impl Judge {
         }
     }
 
-    /// One call on buffers of these lengths. Its cells must agree with its
-    /// answer, and its buffers hold `written` if it is accepted, else what they
-    /// held.
+    /// One call on buffers of these lengths. Its cells and its slice must agree
+    /// with its answer, and its buffers hold `written` if it is accepted, else
+    /// what they held.
     fn call(
         &mut self,
         lengths: Lengths,
@@ -266,7 +276,7 @@ impl Judge {
         call: &mut impl FnMut(Room<'_>) -> Reply,
     ) -> Result<Result<Values, MatError>, String> {
         let mut reply = call(self.lent.lend(lengths));
-        self.tally.calls += 2;
+        self.tally.calls += if reply.part.is_some() { 3 } else { 2 };
         if let Some(fault) = self.fault {
             self.faulted |= fault.put(&mut reply, self.lent.lend(lengths));
         }
@@ -275,12 +285,23 @@ impl Judge {
             Err(_) => Written::default(),
         };
         let held = self.lent.holds(expected, lengths);
-        let Reply { answer, cells } = reply;
+        let Reply {
+            answer,
+            cells,
+            part,
+        } = reply;
         if !held {
             return Err(format!("the buffers do not hold what {answer:?} says"));
         }
         if cells != Cells::for_answer(&answer) {
             return Err(format!("{cells:?} beside {answer:?} (kept: {KEPT})"));
+        }
+        if let Some(Part { given, told }) = part
+            && given != told
+        {
+            return Err(format!(
+                "the slice {given:x?}; {answer:?} tells of {told:x?}"
+            ));
         }
         Ok(answer)
     }

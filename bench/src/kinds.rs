@@ -8,6 +8,7 @@ use oracle::{Answer, Cell, Refusal};
 
 use crate::generate::stores::Store;
 use crate::judge::{Case, Judge, Rust};
+use crate::labels;
 use crate::lent::{Room, Written};
 use crate::library::{self, Array, Reply, values};
 use crate::rules::Limit;
@@ -245,6 +246,7 @@ pub fn blob(judge: &mut Judge, blob: &[u8]) {
     let opened = asked(|| oracle::open(blob));
     open(judge, blob, &opened);
     listing(judge, blob, &opened);
+    labels::of_blob(judge, blob, &opened);
     match &opened {
         Ok(store) => {
             let [names, classes, records, ..] = store.counts();
@@ -332,7 +334,7 @@ fn listing(judge: &mut Judge, blob: &[u8], opened: &Answer<oracle::Store>) {
 }
 
 /// The number at a byte.
-fn u32_at(blob: &[u8], at: usize) -> u32 {
+pub(crate) fn u32_at(blob: &[u8], at: usize) -> u32 {
     u32::from_le_bytes(blob[at..at + 4].try_into().expect("four bytes"))
 }
 

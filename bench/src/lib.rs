@@ -6,6 +6,7 @@ pub mod edits;
 pub mod generate;
 pub mod judge;
 pub mod kinds;
+pub mod labels;
 pub mod lent;
 pub mod library;
 pub mod rng;

@@ -1,7 +1,7 @@
 //! The library's calls in one form: the safe one of the bindings, and beside it
 //! the C interface, whose cells show what was kept.
 
-use mcos::{Buffers, Cells as Store, Counts, FileWrapper, MatError, ffi};
+use mcos::{Buffers, Cells as Store, Counts, FileWrapper, Label, MatError, Source, ffi};
 
 use crate::edited::Edit;
 use crate::lent::Room;
@@ -55,11 +55,25 @@ impl Cells {
     }
 }
 
+/// Where a slice lies: the address of its first byte, and its length. Equal
+/// bytes elsewhere are another slice.
+pub type Extent = (usize, usize);
+
+/// The slice that the safe call for a label gives, and the one that its
+/// companion tells of.
+#[derive(Debug, Clone, Copy)]
+pub struct Part {
+    pub given: Extent,
+    pub told: Extent,
+}
+
 /// The answer of the safe call, and the cells of the same call in C.
 #[derive(Debug, Clone, Copy)]
 pub struct Reply {
     pub answer: Result<Values, MatError>,
     pub cells: Cells,
+    /// Of a label alone.
+    pub part: Option<Part>,
 }
 
 // SAFETY, for every call below: a pointer and its length come from one slice,
@@ -73,6 +87,7 @@ pub fn decode_utf16(units: &[u16], room: Room<'_>) -> Reply {
             let (units, len) = (units.as_ptr(), units.len());
             ffi::mcos_decode_utf16(units, len, text.as_mut_ptr(), text.len(), cell, place)
         }),
+        part: None,
     }
 }
 
@@ -92,6 +107,7 @@ pub fn write_lossy(s: &[u8], room: Room<'_>) -> Reply {
                 place,
             )
         }),
+        part: None,
     }
 }
 
@@ -107,7 +123,11 @@ pub fn create_string_object_metadata(id: u32) -> Reply {
         ffi::mcos_create_string_object_metadata(id, cell.cast());
         0
     });
-    Reply { answer, cells }
+    Reply {
+        answer,
+        cells,
+        part: None,
+    }
 }
 
 /// An array to be written.
@@ -144,6 +164,7 @@ pub fn measure_payload(Array { dims, text, spans }: &Array) -> Reply {
                 place,
             )
         }),
+        part: None,
     }
 }
 
@@ -167,6 +188,7 @@ pub fn encode_string_saveobj_payload(array: &Array, room: Room<'_>) -> Reply {
                 place,
             )
         }),
+        part: None,
     }
 }
 
@@ -178,6 +200,7 @@ pub fn build_string_filewrapper_metadata(objects: u64, room: Room<'_>) -> Reply 
             let (blob, len) = (blob.as_mut_ptr(), blob.len());
             ffi::mcos_build_string_filewrapper_metadata(objects, blob, len, cell, place)
         }),
+        part: None,
     }
 }
 
@@ -196,6 +219,7 @@ pub fn parse(blob: &[u8]) -> Reply {
         cells: Cells::of(|cell, place| unsafe {
             ffi::mcos_parse(blob.as_ptr(), blob.len(), cell.cast(), place)
         }),
+        part: None,
     }
 }
 
@@ -218,11 +242,56 @@ fn named((safe, c): (SafeName, CName), blob: &[u8], number: u32, room: Room<'_>)
                 place,
             )
         }),
+        part: None,
     }
 }
 
 pub fn name(blob: &[u8], index: u32, room: Room<'_>) -> Reply {
     named((mcos::name, ffi::mcos_name), blob, index, room)
+}
+
+/// The part's buffer (0 blob, 1 placeholder), its first byte there and its
+/// length; and the slice, which of a refused call must be the placeholder's
+/// first 0 bytes.
+pub fn label(blob: &[u8], placeholder: &[u8], index: u32) -> Reply {
+    let found = mcos::label_source(blob, placeholder, index);
+    let (buffer, start, length) = match found {
+        Ok(Label {
+            source,
+            start,
+            length,
+        }) => match source {
+            Source::Blob => (blob, start, length),
+            Source::Placeholder => (placeholder, start, length),
+        },
+        Err(_) => (placeholder, 0, 0),
+    };
+    let part = mcos::label(blob, placeholder, index);
+    let numbers = |label: Label| {
+        let source = match label.source {
+            Source::Blob => 0,
+            Source::Placeholder => 1,
+        };
+        values([source, label.start as u64, label.length as u64])
+    };
+    Reply {
+        answer: found.map(numbers),
+        cells: Cells::of(|cell, place| unsafe {
+            ffi::mcos_label(
+                blob.as_ptr(),
+                blob.len(),
+                placeholder.as_ptr(),
+                placeholder.len(),
+                index,
+                cell.cast(),
+                place,
+            )
+        }),
+        part: Some(Part {
+            given: (part.as_ptr().addr(), part.len()),
+            told: (buffer.as_ptr().addr().wrapping_add(start), length),
+        }),
+    }
 }
 
 pub fn class_name(blob: &[u8], id: u32, room: Room<'_>) -> Reply {
@@ -242,6 +311,7 @@ pub fn properties(blob: &[u8], id: u32, room: Room<'_>) -> Reply {
             let (blob, len) = (blob.as_ptr(), blob.len());
             ffi::mcos_properties(blob, len, id, rows.as_mut_ptr(), rows.len(), cell, place)
         }),
+        part: None,
     }
 }
 
@@ -253,6 +323,7 @@ pub fn list_objects(blob: &[u8], room: Room<'_>) -> Reply {
             let (blob, len) = (blob.as_ptr(), blob.len());
             ffi::mcos_list_objects(blob, len, rows.as_mut_ptr(), rows.len(), cell, place)
         }),
+        part: None,
     }
 }
 
@@ -279,6 +350,7 @@ pub fn find_property(blob: &[u8], id: u32, wanted: &[u8]) -> Reply {
             *cell = widened(found);
             number
         }),
+        part: None,
     }
 }
 
@@ -309,6 +381,7 @@ pub fn parse_opaque_metadata(list: &[u32]) -> Reply {
             *cell.add(2) = widened(class);
             number
         }),
+        part: None,
     }
 }
 
@@ -333,6 +406,7 @@ pub fn decode_string_saveobj(payload: &[u64], room: Room<'_>) -> Reply {
                 place,
             )
         }),
+        part: None,
     }
 }
 
@@ -361,6 +435,7 @@ pub fn decode_string(blob: &[u8], store: Store<'_>, list: &[u32], room: Room<'_>
                 place,
             )
         }),
+        part: None,
     }
 }
 
@@ -388,6 +463,7 @@ pub fn decode_string_object(blob: &[u8], store: Store<'_>, id: u32, room: Room<'
                 place,
             )
         }),
+        part: None,
     }
 }
 

@@ -179,6 +179,7 @@ pub fn lacking(expected: MatError, error: MatError) -> Option<Rule> {
         MatError::InvalidDirectory(_) => "the Rust has cells and no directory",
         MatError::InvalidText(_) => "the Rust takes strings",
         MatError::PropertyBlockIdOutOfRange(_) => "the Rust has no object listing",
+        MatError::NameIllFormed(_) => "the Rust repairs names and has no labels",
         _ => return None,
     };
     let number = error.number();
@@ -214,6 +215,16 @@ mod tests {
         assert!(stop(reason, MatError::OpaqueMetadataSizeMismatch(7)).is_some());
         assert!(stop(reason, MatError::PayloadUnitsTruncated(7)).is_none());
         assert!(stop("a panic", MatError::OpaqueMetadataSizeMismatch(7)).is_none());
+    }
+
+    #[test]
+    fn what_the_rust_lacks_is_told_by_number_and_place() {
+        let expected = MatError::NameIllFormed(3);
+        assert!(lacking(expected, expected).is_some_and(|rule| rule.number == 35));
+        assert!(lacking(expected, MatError::NameIllFormed(4)).is_none());
+        assert!(lacking(expected, MatError::NameIndexOutOfRange(3)).is_none());
+        let told = MatError::NameIndexOutOfRange(3);
+        assert!(lacking(told, told).is_none());
     }
 
     #[test]

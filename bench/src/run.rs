@@ -1,6 +1,7 @@
 //! What a run compares: short inputs exhaustively, then random ones.
 
 mod edits;
+mod labels;
 
 use crate::generate::{arrays, blobs, every, lists, payloads, stores, text};
 use crate::judge::{Fault, Judge};
@@ -22,6 +23,8 @@ pub fn exhaustive(judge: &mut Judge, share: Share) {
     short_payloads(judge, share);
     short_lists_of_a_store(judge, share);
     short_arrays(judge, share);
+    labels::short_names(judge, share);
+    labels::short_heaps(judge, share);
     edits::short_lists(judge, share);
     edits::spoilt_stores(judge, share);
     for n in shared(0..=300, share) {
@@ -279,6 +282,7 @@ pub fn round(judge: &mut Judge, rng: &mut Rng) {
     blobs::damage(rng, &mut blob);
     blobs::damage(rng, &mut blob);
     kinds::blob(judge, &blob);
+    labels::round(judge, rng);
     for _ in 0..3 {
         let mut payload = payloads::payload(rng);
         kinds::payload(judge, &payload);

@@ -5,6 +5,9 @@ use std::fmt;
 
 use crate::rules::Rule;
 
+/// The numbers of an answer: 0, and the checks 1 to 35.
+const NUMBERS: usize = 36;
+
 /// What is compared.
 #[derive(Debug, Clone, Copy, PartialEq, Eq, PartialOrd, Ord)]
 pub enum Kind {
@@ -12,6 +15,7 @@ pub enum Kind {
     Lossy,
     Open,
     Name,
+    Label,
     Class,
     ObjectClass,
     Properties,
@@ -46,6 +50,7 @@ impl fmt::Display for Kind {
             Self::Lossy => "write_lossy",
             Self::Open => "FileWrapper::parse",
             Self::Name => "name",
+            Self::Label => "label",
             Self::Class => "class_name",
             Self::ObjectClass => "object_class_name",
             Self::Properties => "properties",
@@ -96,7 +101,7 @@ pub struct Count {
     pub cases: u64,
     pub accepted: u64,
     /// By the number of the check.
-    pub refused: [u64; 35],
+    pub refused: [u64; NUMBERS],
     pub explained: BTreeMap<Rule, Seen>,
     pub unexplained: Seen,
     /// Cases that a fault was put into, to see that it is reported.
@@ -108,7 +113,7 @@ impl Default for Count {
         Self {
             cases: 0,
             accepted: 0,
-            refused: [0; 35],
+            refused: [0; NUMBERS],
             explained: BTreeMap::new(),
             unexplained: Seen::none(),
             faults: 0,
@@ -174,7 +179,7 @@ impl fmt::Display for Tally {
         )?;
         writeln!(f, "|---|---:|---:|---:|---:|---:|")?;
         let mut total = [0; 5];
-        let (mut refused, mut edits) = ([0; 35], [0; 35]);
+        let (mut refused, mut edits) = ([0; NUMBERS], [0; NUMBERS]);
         for (kind, count) in &self.counts {
             let explained = count.explained.values().map(|seen| seen.cases).sum();
             let row = [

@@ -10,8 +10,11 @@ use bench::tally::Kind;
 fn every_fault_is_reported() {
     for fault in Fault::ALL {
         let tally = run::faulty(fault, 20);
-        let edits = [Kind::Append, Kind::Replace].map(|kind| tally.counts[&kind].faults);
-        assert!(edits.iter().sum::<u64>() > 0, "{fault:?} in no edit");
+        let put = |kind| tally.counts[&kind].faults > 0;
+        let edits = put(Kind::Append) || put(Kind::Replace);
+        assert!(edits || fault == Fault::Part, "{fault:?} in no edit");
+        let labels = put(Kind::Label);
+        assert!(labels || fault == Fault::GivenUp, "{fault:?} in no label");
         let mut faults = 0;
         for (kind, count) in tally.counts {
             assert_eq!(
@@ -39,11 +42,12 @@ fn no_fault_is_no_report() {
         let mut rules = counts.flat_map(|count| count.explained.keys());
         rules.any(|rule| rule.number == number)
     };
-    for number in [6, 13, 16, 21, 28, 30] {
+    for number in [6, 13, 16, 21, 28, 30, 35] {
         assert!(explained(number), "{number} is not seen");
     }
     for (kind, numbers) in [
-        (Kind::Append, &[30, 31, 34][..]),
+        (Kind::Label, &[2, 3, 5, 6, 11][..]),
+        (Kind::Append, &[30, 31, 34]),
         (Kind::Replace, &[8, 30, 31, 34]),
         (Kind::TamperedAppend, &[13, 33]),
         (Kind::TamperedReplace, &[13, 33, 8]),

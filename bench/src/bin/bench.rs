@@ -193,6 +193,26 @@ fn names() {
             black_box(store.name(index)).expect("a name");
         },
     );
+    // The Rust has no labels: its side takes the placeholder for an empty name.
+    const UNNAMED: &[u8] = b"(unnamed)";
+    queries(
+        "200 labels of names of 12 bytes",
+        &blob,
+        NAMES,
+        |index| {
+            let label = mcos::label(black_box(&blob), black_box(UNNAMED), index);
+            assert_eq!(black_box(label).len(), 12);
+        },
+        |store, index| {
+            let name = store.name(index).expect("a name");
+            let label = if name.is_empty() {
+                black_box(UNNAMED)
+            } else {
+                name.as_bytes()
+            };
+            assert_eq!(black_box(label).len(), 12);
+        },
+    );
 }
 
 fn objects() {

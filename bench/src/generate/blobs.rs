@@ -231,3 +231,12 @@ pub fn header(names: u32, offsets: &[u32], rest: &[u8]) -> Vec<u8> {
     blob.extend_from_slice(rest);
     blob
 }
+
+/// A blob of names alone, of which so many are declared. After the heap stand
+/// bytes that would go on with a character that its end cuts.
+pub fn heap(declared: u32, heap: &[u8]) -> Vec<u8> {
+    let end = 40 + heap.len() as u32;
+    let mut offsets = [end + 3; 8];
+    offsets[0] = end;
+    header(declared, &offsets, &[heap, &[0xBF; 3]].concat())
+}
