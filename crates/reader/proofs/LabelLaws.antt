@@ -2,7 +2,7 @@
 -- Assumes nothing.
 use mathlib.Core.Path.{_≡_, refl, sym, ap, ap₂, _∙_, subst}
 use mathlib.Core.Bool.{false}
-use mathlib.Core.List.{List, [], _∷_, flatMap}
+use mathlib.Core.List.{List, [], flatMap}
 use mathlib.Core.Option.{Option, some, none}
 use Prim.Native.Nat.{ℕ, zero, suc, _+_, _-_, _≤_, _<_}
 use native.Mathlib.Omega.{arith}
@@ -11,20 +11,21 @@ use denote.Ref.{RefT}
 use lib.Dec.{eqb, leb, ltb}
 use lib.ListN.{length, getD, take, drop}
 use lib.Seq.{slice, length-slice, take-take, drop-drop}
-use Rattle.text.specs.Replies.{validityPlace}
-use Rattle.text.specs.Result.{ok, error, orError}
-use Rattle.text.specs.Utf8.{partsFrom, firstIllFormed, replacedIn, scalars8}
+use Rattle.text.specs.Replies.{terminatedLength, terminatedOf}
+use Rattle.text.specs.Result.{Result, ok, error, orError}
+use Rattle.text.specs.Utf8.{partsFrom, replacedIn, scalars8, beforeZero}
 use Rattle.text.specs.declared.error.Failure.{Failure}
 use Rattle.text.specs.declared.error.MatError.{MatError}
 use Rattle.text.specs.declared.error.MatError.the-variants.{NameIndexOutOfRange, NameIllFormed}
-use Rattle.text.specs.declared.utf8.Validity.{Validity}
-use Rattle.text.specs.declared.utf8.Validity.the-variants as validity
-use Rattle.text.proofs.LossyLaws.{none-replaced, part-replaced, valid-scalars, invalid-scalars}
+use Rattle.text.specs.declared.utf8.TerminatedLength.{TerminatedLength}
+use Rattle.text.specs.declared.utf8.TerminatedLength.the-variants as terminated
+use Rattle.text.proofs.LossyLaws.{none-replaced, part-replaced}
 use Rattle.text.proofs.ResultLaws.{reply-is, check-passed, seq-passed, bind-passed}
+use Rattle.text.proofs.TerminatedLaws.{terminated-is, terminated-not}
 use Rattle.text.proofs.TestLaws.{either}
 use Rattle.text.proofs.Utf8Laws.{lossy-same, scalars8-utf8s}
 use Rattle.reader.specs.Labels.{placeholderPart, ownBytes, namePart, checkWellFormed, labelOf, labelReplyOf, IsPart, IsLabel}
-use Rattle.reader.specs.Names.{pieces, heapOf, nameBytes, lengthWithZeros, nameStart, HasName, IsName}
+use Rattle.reader.specs.Names.{pieces, heapOf, nameBytes, lengthWithZeros, nameStart, HasName, Starts}
 use Rattle.reader.specs.Opening.{opened}
 use Rattle.reader.specs.Queries.{nameText}
 use Rattle.reader.specs.Replies.{parseReplyOf}
@@ -36,9 +37,8 @@ use Rattle.reader.specs.declared.labels.LabelReply.{LabelReply}
 use Rattle.reader.specs.declared.labels.LabelReply.the-variants as reply
 use Rattle.reader.specs.declared.labels.Source.{Source}
 use Rattle.reader.specs.declared.labels.Source.the-variants as source
-use Rattle.reader.specs.declared.names.Piece.{Piece}
 use Rattle.reader.proofs.NameLaws.{opens, part-slice}
-use Rattle.reader.proofs.PieceLaws.{lengths-pieces, lengths-at, lengths-less, piece-at}
+use Rattle.reader.proofs.PieceLaws.{lengths-pieces, lengths-at, lengths-less, piece-at, starts-place, starts-name}
 
 -- ---- outcomes of the definition
 
@@ -221,32 +221,34 @@ module _ (b placeholder : List ℕ) (i : ℕ) {x : ParseReply} (e : parseReplyOf
     pub source-outside : w .names < i → labelReplyOf (reply.Error (NameIndexOutOfRange i)) ≡ labelOf b placeholder i
     source-outside h = sym (outside b placeholder i (reply-is parseReplyOf e g) h)
 
-    module _ (h : i ≤ w .names) {p : Piece} (n : IsName b (w .offsets .o0) i p) where
-      bytes : length (ownBytes b w i) ≡ p .end - p .start
-      bytes = sym (ap length (n .is)) ∙ length-slice (p .start) (p .end) b (n .inside)
+    pub heap-inside : w .offsets .o0 ≤ length b
+    heap-inside = omega (arith, opens b w (reply-is parseReplyOf e g))
 
-      pub source-empty : p .start ≡ p .end → labelReplyOf (reply.Part (placeholderPart (length placeholder))) ≡ labelOf b placeholder i
-      source-empty z = sym (label-empty b placeholder i (reply-is parseReplyOf e g) h (none-left (ownBytes b w i) (omega (arith, bytes))))
-        where
-          none-left : (xs : List ℕ) → length xs ≡ 0 → xs ≡ []
-          none-left [] z = refl
-          none-left (x ∷ xs) z = absurd (omega arith)
+    pub source-zero : {m : Result Part} → i ≡ 0 → m ≡ ok (placeholderPart (length placeholder)) → m ≡ labelOf b placeholder i
+    source-zero z u = u ∙ sym (ap (labelOf b placeholder) z ∙ label-zero b placeholder (reply-is parseReplyOf e g))
 
-      module _ (v : Validity) (valid : validityPlace v ≡ firstIllFormed (partsFrom (take (p .end - p .start) (drop (p .start) b)) 0)) where
-        named : validityPlace v ≡ firstIllFormed (partsFrom (ownBytes b w i) 0)
-        named = valid ∙ ap (λ (xs : List ℕ). firstIllFormed (partsFrom xs 0)) (part-slice (p .start) (p .end) b (n .order) ∙ n .is)
+    module _ (h : i ≤ w .names) (some : i ≡ 0 → ⊥) {start : ℕ} (s : Starts b (w .offsets .o0) i start) (v : TerminatedLength)
+        (said : terminatedOf v ≡ terminatedLength (take (w .offsets .o0 - start) (drop start b))) where
+      own : beforeZero (take (w .offsets .o0 - start) (drop start b)) ≡ ownBytes b w i
+      own = ap beforeZero (part-slice start (w .offsets .o0) b (s .inside)) ∙ starts-name some s
 
-        pub source-ill-formed : {at : ℕ} → v ≡ validity.IllFormed at → labelReplyOf (reply.Error (NameIllFormed i)) ≡ labelOf b placeholder i
-        source-ill-formed f = sym (ill-formed b placeholder i (reply-is parseReplyOf e g) h (invalid-scalars (ownBytes b w i) named f))
+      pub source-ill-formed : v ≡ terminated.IllFormed → labelReplyOf (reply.Error (NameIllFormed i)) ≡ labelOf b placeholder i
+      source-ill-formed f = sym (ill-formed b placeholder i (reply-is parseReplyOf e g) h (ap scalars8 (sym own) ∙ terminated-not _ said f))
 
-        pub source-blob : v ≡ validity.WellFormed → (p .start ≡ p .end → ⊥)
-            → labelReplyOf (reply.Part (record { source = source.Blob; start = p .start; length = p .end - p .start })) ≡ labelOf b placeholder i
-        source-blob f full =
-            let t : eqb (length (ownBytes b w i)) 0 ≡ false = ne-eqb (length (ownBytes b w i)) 0 (λ z. full (omega (arith, bytes, n .order))) in
-            let k : p .start ≡ nameStart b (w .offsets .o0) i = n .place (not-first b w i t) in
-            sym
-            (well-formed b placeholder i (reply-is parseReplyOf e g) h (valid-scalars (ownBytes b w i) named f)
-            ∙ ap ok (simp t (rw (bytes, k))))
+      module _ {n : ℕ} (f : v ≡ terminated.Length n) where
+        told : labelOf b placeholder i ≡ ok (namePart b placeholder w i)
+        told = well-formed b placeholder i (reply-is parseReplyOf e g) h (ap scalars8 (sym own) ∙ terminated-is _ said f .1 .0)
+
+        bytes : n ≡ length (ownBytes b w i)
+        bytes = terminated-is _ said f .1 .1 ∙ ap length own
+
+        pub source-empty : {m : Result Part} → n ≡ 0 → m ≡ ok (placeholderPart (length placeholder)) → m ≡ labelOf b placeholder i
+        source-empty z u = u ∙ sym (told ∙ ap ok (simp (eq-eqb (length (ownBytes b w i)) 0 (sym bytes ∙ z))))
+
+        pub source-blob : (n ≡ 0 → ⊥) → labelReplyOf (reply.Part (record { source = source.Blob; start = start; length = n })) ≡ labelOf b placeholder i
+        source-blob m =
+            let k : start ≡ nameStart b (w .offsets .o0) i = starts-place (opens b w (reply-is parseReplyOf e g) .heap) heap-inside s in
+            sym (told ∙ ap ok (simp (ne-eqb (length (ownBytes b w i)) 0 (λ z. m (bytes ∙ z))) (rw (sym bytes, k))))
 
 -- ---- the outcomes of `label`
 

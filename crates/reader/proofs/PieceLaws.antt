@@ -5,11 +5,13 @@ use mathlib.Core.List.{List, [], _∷_, _++_, append-nil}
 use Prim.Native.Nat.{ℕ, zero, suc, _+_, _-_, _≤_, _<_}
 use native.Mathlib.Numerals.{add-one}
 use native.Mathlib.Omega.{arith}
-use borrow.Author.Tests.{eq-eqb, ne-eqb, ltb-true, ltb-false, le-leb, lt-leb, leb-true}
+use borrow.Author.Tests.{eq-eqb, ne-eqb, eqb-true, eqb-false, ltb-true, ltb-false, le-leb, lt-leb, leb-true}
 use lib.Dec.{eqb, leb, ltb}
 use lib.ListN.{length, getD, take, drop, length-drop, take-append-drop}
 use lib.Seq.{slice, slice-cons, slice-empty, length-slice, append-snoc, take-take, drop-cons, getD-drop, drop-drop}
+use Rattle.text.specs.Utf8.{beforeZero}
 use Rattle.text.proofs.BufferLaws.{slice-more}
+use Rattle.text.proofs.TerminatedLaws.{before-none, before-zero, before-more}
 use Rattle.text.proofs.TestLaws.{either}
 use Rattle.reader.specs.Names.{onto, pieces, piecesFrom, heapOf, nameBytes, lengthWithZeros, nameStart, zeros, Counted, Skips, HasPiece, Starts, FirstPiece, Standing, HasName, IsName}
 use Rattle.reader.specs.declared.names.Skipped.{Skipped}
@@ -294,6 +296,20 @@ module _ {b : List ℕ} {e : ℕ} where
             let z : x - 1 + 1 ≡ x + 1 - 1 = omega arith in
             record { rest = rw z at (ap (drop 1) here ∙ drop-drop 1 (x - 1) (pieces (heapOf b e))) }
 
+-- ---- a name
+
+module _ {b : List ℕ} {e index : ℕ} (n : HasName b e index) where
+  pub name-empty : index ≡ 0 → IsName b e index (record { start = 40; end = 40 })
+  unfolding nameBytes
+  name-empty z = record { order = omega arith; inside = omega (arith, n .heap, n .inside); is = slice-empty 40 b ∙ sym (simp (eq-eqb index 0 z)) }
+
+  module _ (some : index ≡ 0 → ⊥) where
+    pub has-piece : HasPiece b e index
+    has-piece = record { heap = n .heap; inside = n .inside; least = omega arith; most = n .most }
+
+    pub name-found : {i j : ℕ} → Starts b e index i → FirstPiece b i e j → IsName b e index (record { start = i; end = j })
+    name-found s f = record { order = f .order; inside = omega (arith, f .inside, n .inside); is = stand-name (s .stands) (n .most) some f }
+
 -- ---- where a piece begins
 
 lengths-append : (ps qs : List (List ℕ)) → lengthWithZeros (ps ++ qs) ≡ lengthWithZeros ps + lengthWithZeros qs
@@ -368,21 +384,25 @@ starts-place {b} {e} {index} {i} h l s =
     let rest = ap lengthWithZeros (sym (from-here i b e (s .inside)) ∙ s .stands .rest) in
     omega (arith, whole, cut, rest, lengths-pieces (slice i e b), length-slice i e b l, length-slice 40 e b l, s .inside)
 
--- ---- a name
+-- the first piece is what stands before the first zero byte
+first-piece : (xs : List ℕ) → getD (pieces xs) 0 [] ≡ beforeZero xs
+unfolding pieces
+first-piece [] = sym before-none
+first-piece (x ∷ xs) =
+    either (eqb x 0)
+    (λ t. simp t (sym (before-zero x xs (eqb-true x 0 t))))
+    (λ t. simp t (grown (pieces xs) (pieces-some xs) ∙ ap (λ (ys : List ℕ). x ∷ ys) (first-piece xs) ∙ sym (before-more x xs (eqb-false x 0 t))))
+  where
+    grown : (ps : List (List ℕ)) → 1 ≤ length ps → getD (onto x ps) 0 [] ≡ x ∷ getD ps 0 []
+    grown [] h = absurd (omega arith)
+    grown (p ∷ ps) h = refl
 
-module _ {b : List ℕ} {e index : ℕ} (n : HasName b e index) where
-  pub name-empty : index ≡ 0 → IsName b e index (record { start = 40; end = 40 })
-  unfolding nameBytes
-  name-empty z = record { order = omega arith; inside = omega (arith, n .heap, n .inside); is = slice-empty 40 b ∙ sym (simp (eq-eqb index 0 z)); place = λ m. absurd (omega arith) }
-
-  module _ (some : index ≡ 0 → ⊥) where
-    pub has-piece : HasPiece b e index
-    has-piece = record { heap = n .heap; inside = n .inside; least = omega arith; most = n .most }
-
-    pub name-found : {i j : ℕ} → Starts b e index i → FirstPiece b i e j → IsName b e index (record { start = i; end = j })
-    name-found s f = record {
-      order = f .order;
-      inside = omega (arith, f .inside, n .inside);
-      is = stand-name (s .stands) (n .most) some f;
-      place = λ _. starts-place (n .heap) (n .inside) s;
-    }
+pub starts-name : {b : List ℕ} {e index i : ℕ} → (index ≡ 0 → ⊥) → Starts b e index i → beforeZero (slice i e b) ≡ nameBytes b e index
+unfolding nameBytes
+starts-name {b} {e} {index} {i} some s =
+    let ps : List (List ℕ) = pieces (heapOf b e) in
+    let z : index - 1 + 0 ≡ index - 1 = omega arith in
+    sym (first-piece (slice i e b))
+    ∙ ap (λ (qs : List (List ℕ)). getD qs 0 []) (sym (from-here i b e (s .inside)) ∙ s .stands .rest)
+    ∙ getD-drop (index - 1) ps 0 []
+    ∙ simp (ne-eqb index 0 some) (ap (λ (k : ℕ). getD ps k []) z)

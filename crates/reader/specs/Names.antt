@@ -97,12 +97,11 @@ pub record Starts (b : List ℕ) (end index i : ℕ) : Type 0 where
 abbrev pub pieceBytes : List ℕ → Piece → List ℕ
 pieceBytes b p = slice (p .start) (p .end) b
 
--- the bytes of name index, and for a stored one where they begin
+-- the bytes of name index
 pub record IsName (b : List ℕ) (end index : ℕ) (p : Piece) : Type 0 where
   pub order : p .start ≤ p .end
   pub inside : p .end ≤ length b
   pub is : pieceBytes b p ≡ nameBytes b end index
-  pub place : 1 ≤ index → p .start ≡ nameStart b end index
 
 -- a piece lies in the blob, which is short enough for any sum of its bytes
 pub record InBlob (b : List ℕ) (p : Piece) : Type 0 where

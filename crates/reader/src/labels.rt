@@ -1,12 +1,14 @@
 // A label for a name: the name's own bytes where they lie in the blob, or a placeholder for an empty name.
 use crate::file_wrapper::FileWrapper;
 use crate::file_wrapper::ParseReply;
-use crate::names::name_piece;
+use crate::names::piece_start;
 use text::error::MatError;
-use text::utf8::Validity;
-use text::utf8::validate;
+use text::utf8::TerminatedLength;
+use text::utf8::terminated_length;
 ghost use mathlib.Core.Path.{_≡_};
-ghost use Rattle.reader.specs.Labels.{labelOf, labelReplyOf, IsLabel};
+ghost use lib.ListN.{length};
+ghost use Rattle.text.specs.Result.{ok};
+ghost use Rattle.reader.specs.Labels.{placeholderPart, labelOf, labelReplyOf, IsLabel};
 
 // The buffer that a part belongs to.
 pub enum Source {
@@ -27,7 +29,19 @@ pub enum LabelReply {
     Error(MatError),
 }
 
-// Which part of which buffer is the label of a name index. The name is not copied, so it must be well-formed as it stands.
+// The label of an empty name.
+fn unnamed(placeholder: &[u8]) -> LabelReply
+    ensures { λ r. ⌜ labelReplyOf r ≡ ok (placeholderPart (length (now (placeholder .entry)))) ⌝ }
+{
+    LabelReply::Part(Part {
+        source: Source::Placeholder,
+        start: 0,
+        length: placeholder.len(),
+    })
+}
+
+// Which part of which buffer is the label of a name index. The name is not copied, so it must be well-formed as it stands; its end is
+// found as it is looked at.
 pub fn label_source(blob: &[u8], placeholder: &[u8], index: u32) -> LabelReply
     ensures { λ r. ⌜ labelReplyOf r ≡ labelOf (now (blob .entry)) (now (placeholder .entry)) index ⌝ }
 {
@@ -36,23 +50,25 @@ pub fn label_source(blob: &[u8], placeholder: &[u8], index: u32) -> LabelReply
             if w.names < index {
                 return LabelReply::Error(MatError::NameIndexOutOfRange(index as u64));
             }
-            let piece = name_piece(blob, w.offsets.o0, index as usize);
-            let start = piece.start;
-            let end = piece.end;
-            if start == end {
-                return LabelReply::Part(Part {
-                    source: Source::Placeholder,
-                    start: 0,
-                    length: placeholder.len(),
-                });
+            if index == 0 {
+                return unnamed(placeholder);
             }
-            match validate(&blob[start..end]) {
-                Validity::WellFormed => LabelReply::Part(Part {
-                    source: Source::Blob,
-                    start,
-                    length: end - start,
-                }),
-                Validity::IllFormed(_) => LabelReply::Error(MatError::NameIllFormed(index as u64)),
+            let heap_end = w.offsets.o0;
+            let start = piece_start(blob, heap_end, index as usize);
+            match terminated_length(&blob[start..heap_end]) {
+                TerminatedLength::Length(length) => {
+                    if length == 0 {
+                        return unnamed(placeholder);
+                    }
+                    LabelReply::Part(Part {
+                        source: Source::Blob,
+                        start,
+                        length,
+                    })
+                }
+                TerminatedLength::IllFormed => LabelReply::Error(MatError::NameIllFormed(
+                    index as u64,
+                )),
             }
         }
         ParseReply::Error(e) => LabelReply::Error(e),

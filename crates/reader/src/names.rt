@@ -88,7 +88,7 @@ pub(crate) struct Piece {
 }
 
 // Where piece index, from 1, of the bytes from byte 40 up to end begins.
-fn piece_start(blob: &[u8], end: usize, index: usize) -> usize
+pub(crate) fn piece_start(blob: &[u8], end: usize, index: usize) -> usize
     requires { ⌜ HasPiece (now blob) end index ⌝ }
     ensures { λ r. ⌜ Starts (now (blob .entry)) end index r ⌝ }
 {

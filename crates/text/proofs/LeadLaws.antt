@@ -106,6 +106,9 @@ low-least a =
     cond-both (λ (x : ℕ). 128 ≤ x) (eqb a 224) 160 _ (λ e. omega arith)
     (λ e. cond-both (λ (x : ℕ). 128 ≤ x) (eqb a 240) 144 128 (λ e. omega arith) (λ e. omega arith))
 
+pub second-least : (a : ℕ) → a < 256 → 128 ≤ secondRange a .low
+second-least a h = rw (low-by a h) (low-least a)
+
 high-most : (a : ℕ) → highBy a ≤ 191
 high-most a =
     cond-both (λ (x : ℕ). x ≤ 191) (eqb a 237) 159 _ (λ e. omega arith)

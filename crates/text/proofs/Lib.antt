@@ -13,6 +13,7 @@ pub mod ResultLaws
 pub mod SameLaws
 pub mod ScalarLaws
 pub mod StepLaws
+pub mod TerminatedLaws
 pub mod TestLaws
 pub mod Utf16Laws
 pub mod Utf8Laws

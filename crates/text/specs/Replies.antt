@@ -9,12 +9,14 @@ use lib.Dec.{leb, ltb}
 use lib.ListN.{length, drop}
 use Rattle.text.specs.Errors.{failureOf}
 use Rattle.text.specs.Result.{Result, ok, error, mapResult, needPlace, overwritten}
-use Rattle.text.specs.Utf8.{partsFrom, firstIllFormed, replacedIn, unitsOf, lossy}
+use Rattle.text.specs.Utf8.{partsFrom, firstIllFormed, replacedIn, scalars8, unitsOf, beforeZero, lossy}
 use Rattle.text.specs.Utf16.{decodeUtf16}
 use Rattle.text.specs.declared.utf8.Validity.{Validity}
 use Rattle.text.specs.declared.utf8.Validity.the-variants as validity
 use Rattle.text.specs.declared.utf8.UnitCount.{UnitCount}
 use Rattle.text.specs.declared.utf8.UnitCount.the-variants as count
+use Rattle.text.specs.declared.utf8.TerminatedLength.{TerminatedLength}
+use Rattle.text.specs.declared.utf8.TerminatedLength.the-variants as terminated
 use Rattle.text.specs.declared.utf8.LossyLength.{LossyLength}
 use Rattle.text.specs.declared.utf8.LossyLength.the-variants as measure
 use Rattle.text.specs.declared.utf8.LossyReply.{LossyReply}
@@ -43,6 +45,15 @@ countPlace (count.IllFormed i) = some i
 pub record CountsUnits (s : List ℕ) (r : UnitCount) : Type 0 where
   pub units : countUnits r ≡ Option·map length (unitsOf s)
   pub place : countPlace r ≡ firstIllFormed (partsFrom s 0)
+
+-- how many bytes stand before the first zero byte, where they are well-formed
+abbrev pub terminatedLength : List ℕ → Option ℕ
+terminatedLength s = Option·map (λ _. length (beforeZero s)) (scalars8 (beforeZero s))
+
+-- that length, where there is one
+abbrev pub terminatedOf : TerminatedLength → Option ℕ
+terminatedOf (terminated.Length n) = some n
+terminatedOf terminated.IllFormed = none
 
 -- the bytes of the repaired text and the number of replaced parts, or that the bytes do not fit 64 bits
 unfoldable pub lossyLength : List ℕ → LossyLength

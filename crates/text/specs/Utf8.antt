@@ -159,6 +159,11 @@ scalars8 s = scalarsOf (partsFrom s 0)
 abbrev pub unitsOf : List ℕ → Option (List ℕ)
 unitsOf s = Option·map utf16s (scalars8 s)
 
+-- the bytes before the first zero byte, all of them where there is none
+unfoldable pub beforeZero : List ℕ → List ℕ
+beforeZero [] = []
+beforeZero (x ∷ xs) = cond (eqb x 0) [] (x ∷ beforeZero xs)
+
 -- the repaired text, as `String::from_utf8_lossy` has it
 abbrev pub lossy : List ℕ → List ℕ
 lossy s = utf8s (repaired (partsFrom s 0))

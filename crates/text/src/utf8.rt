@@ -5,7 +5,7 @@ ghost use Prim.Native.Nat.{_+_, _/_, _≤_, _<_};
 ghost use lib.Dec.{leb, eqb};
 ghost use lib.ListN.{length, getD};
 ghost use Rattle.text.specs.Buffer.{same, put, Puts, Places};
-ghost use Rattle.text.specs.Replies.{validityPlace, CountsUnits, lossyLength, WritesLossy};
+ghost use Rattle.text.specs.Replies.{validityPlace, CountsUnits, terminatedLength, terminatedOf, lossyLength, WritesLossy};
 ghost use Rattle.text.specs.Stages.{stepHas, hasSecond, wholeLength};
 ghost use Rattle.text.specs.Unicode.{Below, isScalar, utf8, encoded};
 ghost use Rattle.text.specs.Utf8.{sequenceLength, secondRange, hasIn, stepAt, partsFrom, firstIllFormed, lossy};
@@ -351,6 +351,34 @@ pub fn validate(text: &[u8]) -> Validity
         UnitCount::Units(_) => Validity::WellFormed,
         UnitCount::IllFormed(at) => Validity::IllFormed(at),
     }
+}
+
+// The length of a text that ends before its first zero byte, or with all its bytes where there is none; or that it is ill-formed.
+pub enum TerminatedLength {
+    Length(usize),
+    IllFormed,
+}
+
+// Finds the end and looks at the text in one walk.
+pub fn terminated_length(bytes: &[u8]) -> TerminatedLength
+    ensures { λ r. ⌜ terminatedOf r ≡ terminatedLength (now (bytes .entry)) ⌝ }
+{
+    let mut i: usize = 0;
+    while i < bytes.len() {
+        if bytes[i] == 0 {
+            return TerminatedLength::Length(i);
+        }
+        if bytes[i] < 0x80 {
+            i += 1;
+            continue;
+        }
+        let size = whole_length(bytes, i);
+        if size == 0 {
+            return TerminatedLength::IllFormed;
+        }
+        i += size;
+    }
+    TerminatedLength::Length(i)
 }
 
 // The length of a repaired text and the number of ill-formed parts that were replaced, a genuine U+FFFD not among them; or that the
