@@ -2,8 +2,8 @@
 -- Assumes nothing.
 use mathlib.Core.Path.{_≡_, refl, sym, ap, ap₂, _∙_, subst}
 use mathlib.Core.Bool.{false}
-use mathlib.Core.List.{List, [], flatMap}
-use mathlib.Core.Option.{Option, some, none}
+use mathlib.Core.List.{List, []}
+use mathlib.Core.Option.{some, none}
 use Prim.Native.Nat.{ℕ, zero, suc, _+_, _-_, _≤_, _<_}
 use native.Mathlib.Omega.{arith}
 use borrow.Author.Tests.{eq-eqb, ne-eqb, eqb-false, le-leb, lt-leb, leb-true, ltb-true, ltb-false}
@@ -12,19 +12,18 @@ use lib.Dec.{eqb, leb, ltb}
 use lib.ListN.{length, getD, take, drop}
 use lib.Seq.{slice, length-slice, take-take, drop-drop}
 use Rattle.text.specs.Replies.{terminatedLength, terminatedOf}
-use Rattle.text.specs.Result.{Result, ok, error, orError}
+use Rattle.text.specs.Result.{Result, ok, error}
 use Rattle.text.specs.Utf8.{partsFrom, replacedIn, scalars8, beforeZero}
-use Rattle.text.specs.declared.error.Failure.{Failure}
 use Rattle.text.specs.declared.error.MatError.{MatError}
 use Rattle.text.specs.declared.error.MatError.the-variants.{NameIndexOutOfRange, NameIllFormed}
 use Rattle.text.specs.declared.utf8.TerminatedLength.{TerminatedLength}
 use Rattle.text.specs.declared.utf8.TerminatedLength.the-variants as terminated
 use Rattle.text.proofs.LossyLaws.{none-replaced, part-replaced}
-use Rattle.text.proofs.ResultLaws.{reply-is, check-passed, seq-passed, bind-passed}
+use Rattle.text.proofs.ResultLaws.{reply-is, same-value, orError-passed, check-passed, seq-passed, bind-passed}
 use Rattle.text.proofs.TerminatedLaws.{terminated-is, terminated-not}
 use Rattle.text.proofs.TestLaws.{either}
-use Rattle.text.proofs.Utf8Laws.{lossy-same, scalars8-utf8s}
-use Rattle.reader.specs.Labels.{placeholderPart, ownBytes, namePart, checkWellFormed, labelOf, labelReplyOf, IsPart, IsLabel}
+use Rattle.text.proofs.Utf8Laws.{lossy-same, scalars8-empty}
+use Rattle.reader.specs.Labels.{placeholderPart, ownBytes, namePart, checkWellFormed, labelOf, labelReplyOf, bufferOf, IsPart, IsLabel}
 use Rattle.reader.specs.Names.{pieces, heapOf, nameBytes, lengthWithZeros, nameStart, HasName, Starts}
 use Rattle.reader.specs.Opening.{opened}
 use Rattle.reader.specs.Queries.{nameText}
@@ -93,13 +92,13 @@ not-first b w zero t = absurd (eqb-false 0 0 t refl)
 not-first b w (suc i) t = omega arith
 
 -- a part of the blob: that of a stored name
-pub record Stored (b : List ℕ) (w : FileWrapper) (i : ℕ) (p : Part) : Type 0 where
+record Stored (b : List ℕ) (w : FileWrapper) (i : ℕ) (p : Part) : Type 0 where
   pub least : 1 ≤ i
   pub begins : p .start ≡ nameStart b (w .offsets .o0) i
   pub size : p .length ≡ length (ownBytes b w i)
 
 module _ (b placeholder : List ℕ) (w : FileWrapper) (i : ℕ) {p : Part} (is : p ≡ namePart b placeholder w i) where
-  pub in-blob : p .source ≡ source.Blob → Stored b w i p
+  in-blob : p .source ≡ source.Blob → Stored b w i p
   in-blob s =
       either (eqb (length (ownBytes b w i)) 0)
       (λ t. let q : p ≡ placeholderPart (length placeholder) = is ∙ simp t in
@@ -108,7 +107,7 @@ module _ (b placeholder : List ℕ) (w : FileWrapper) (i : ℕ) {p : Part} (is :
       (λ t. let q : p ≡ record { source = source.Blob; start = nameStart b (w .offsets .o0) i; length = length (ownBytes b w i) } = is ∙ simp t in
       record { least = not-first b w i t; begins = ap (λ (x : Part). x .start) q; size = ap (λ (x : Part). x .length) q })
 
-  pub in-placeholder : p .source ≡ source.Placeholder → p ≡ placeholderPart (length placeholder)
+  in-placeholder : p .source ≡ source.Placeholder → p ≡ placeholderPart (length placeholder)
   in-placeholder s =
       either (eqb (length (ownBytes b w i)) 0) (λ t. is ∙ simp t)
       (λ t. let q : p ≡ record { source = source.Blob; start = nameStart b (w .offsets .o0) i; length = length (ownBytes b w i) } = is ∙ simp t in
@@ -117,7 +116,7 @@ module _ (b placeholder : List ℕ) (w : FileWrapper) (i : ℕ) {p : Part} (is :
 
 -- ---- what an accepted label says
 
-pub record Accepted (b placeholder : List ℕ) (i : ℕ) (p : Part) : Type 0 where
+record Accepted (b placeholder : List ℕ) (i : ℕ) (p : Part) : Type 0 where
   pub wrapper : FileWrapper
   pub opened-is : opened b ≡ ok wrapper
   pub named : i ≤ wrapper .names
@@ -125,18 +124,7 @@ pub record Accepted (b placeholder : List ℕ) (i : ℕ) (p : Part) : Type 0 whe
   pub sound : scalars8 (ownBytes b wrapper i) ≡ some scalars
   pub is : p ≡ namePart b placeholder wrapper i
 
-value : {A : Type 0} {x y : A} → ok x ≡ ok y → x ≡ y
-value {A} {x} {y} r = cc
-
-or-passed : {A : Type 0} (f : Failure) (m : Option A) {a : A} → orError f m ≡ ok a → m ≡ some a
-or-passed f (some x) {a} e =
-    let z : x ≡ a = cc in
-    ap some z
-or-passed f none e =
-    let z : _≡_ {A = ℕ} 0 1 = cc in
-    absurd (omega arith)
-
-pub accepted : (b placeholder : List ℕ) (i : ℕ) {p : Part} → labelOf b placeholder i ≡ ok p → Accepted b placeholder i p
+accepted : (b placeholder : List ℕ) (i : ℕ) {p : Part} → labelOf b placeholder i ≡ ok p → Accepted b placeholder i p
 unfolding labelOf
 accepted b placeholder i {p} e =
     let o = bind-passed (opened b) _ e in
@@ -148,8 +136,8 @@ accepted b placeholder i {p} e =
       opened-is = o .1 .0;
       named = leb-true i (o .0 .names) (n .0);
       scalars = s .0;
-      sound = or-passed _ (scalars8 (ownBytes b (o .0) i)) (s .1 .0);
-      is = sym (value q);
+      sound = orError-passed _ (scalars8 (ownBytes b (o .0) i)) (s .1 .0);
+      is = sym (same-value q);
     }
 
 module _ {b placeholder : List ℕ} {i : ℕ} {p : Part} (a : Accepted b placeholder i p) where
@@ -173,9 +161,8 @@ module _ (b placeholder : List ℕ) (i : ℕ) {w : FileWrapper} (o : opened b �
 
   -- an empty name gives the whole placeholder
   pub label-empty : ownBytes b w i ≡ [] → labelOf b placeholder i ≡ ok (placeholderPart (length placeholder))
-  unfolding flatMap
   label-empty z =
-      well-formed b placeholder i o h (ap scalars8 z ∙ scalars8-utf8s [] tt)
+      well-formed b placeholder i o h (ap scalars8 z ∙ scalars8-empty)
       ∙ ap ok (simp (eq-eqb (length (ownBytes b w i)) 0 (ap length z)))
 
 -- index 0 is the empty name
@@ -198,7 +185,7 @@ module _ (b placeholder : List ℕ) (i : ℕ) {p : Part} (e : labelOf b placehol
   label-own j f s =
       let a = accepted b placeholder i e in
       let c = accepted b placeholder j f in
-      let same : a .wrapper ≡ c .wrapper = value (sym (a .opened-is) ∙ c .opened-is) in
+      let same : a .wrapper ≡ c .wrapper = same-value (sym (a .opened-is) ∙ c .opened-is) in
       let t = stored a s in
       let u : Stored b (a .wrapper) j p = subst (λ (w : FileWrapper). Stored b w j p) (sym same) (stored c s) in
       let ps : List (List ℕ) = pieces (heapOf b (a .wrapper .offsets .o0)) in
@@ -280,16 +267,9 @@ module _ (blob placeholder : RefT (List ℕ)) {r : RefT (List ℕ)} (i : ℕ) {x
   pub part-refused : {f : MatError} → x ≡ reply.Error f → IsPart 0 0 placeholder r → IsLabel blob placeholder i r
   part-refused g w = rw (reply-is labelReplyOf e g) w
 
-  module _ {p : Part} (g : x ≡ reply.Part p) where
-    same-length : (s : RefT (List ℕ)) → IsPart (p .start) (p .start + p .length - p .start) s r → IsPart (p .start) (p .length) s r
-    same-length s w =
-        let z : p .start + p .length - p .start ≡ p .length = omega arith in
-        rw z at w
-
-    pub part-of-blob : p .source ≡ source.Blob → IsPart (p .start) (p .start + p .length - p .start) blob r → IsLabel blob placeholder i r
-    part-of-blob s w = rw (reply-is labelReplyOf e g, s) (same-length blob w)
-
-    pub part-of-placeholder :
-        p .source ≡ source.Placeholder → IsPart (p .start) (p .start + p .length - p .start) placeholder r
-        → IsLabel blob placeholder i r
-    part-of-placeholder s w = rw (reply-is labelReplyOf e g, s) (same-length placeholder w)
+  pub part-given :
+      {p : Part} → x ≡ reply.Part p → {s : Source} → p .source ≡ s
+      → IsPart (p .start) (p .start + p .length - p .start) (bufferOf s blob placeholder) r → IsLabel blob placeholder i r
+  part-given {p} g {s} is w =
+      let z : p .start + p .length - p .start ≡ p .length = omega arith in
+      rw (reply-is labelReplyOf e g, is) (rw z at w)

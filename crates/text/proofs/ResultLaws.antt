@@ -2,15 +2,19 @@
 use Prim.Native.Nat.{ℕ, zero, suc, _+_, _-_, _≤_, _<_}
 use mathlib.Core.Path.{_≡_, refl, sym, ap, _∙_}
 use mathlib.Core.Bool.{Bool, true, false}
+use mathlib.Core.Option.{Option, some, none}
 use native.Mathlib.Numerals.{add-one}
 use native.Mathlib.Omega.{arith}
-use Rattle.text.specs.Result.{Result, ok, error, check, checkEach, checkCount, foldCount, foldRange, _>>_, _>>=_}
+use Rattle.text.specs.Result.{Result, ok, error, orError, check, checkEach, checkCount, foldCount, foldRange, _>>_, _>>=_}
 use Rattle.text.specs.declared.error.Failure.{Failure}
 use Rattle.text.proofs.TestLaws.{equal-or}
 
 -- what a callee's enum reply-is: f reads the reply as a result, and the reply is y
 pub reply-is : {X A : Type 0} (f : X → Result A) {x y : X} {m : Result A} → f x ≡ m → x ≡ y → m ≡ f y
 reply-is f e g = sym e ∙ ap f g
+
+pub same-value : {A : Type 0} {x y : A} → ok x ≡ ok y → x ≡ y
+same-value {A} {x} {y} e = cc
 
 -- checks that all hold
 pub check-passed : (q : ℕ) (t : Bool) (p : ℕ) {A : Type 0} (m : Result A) {a : A} → (check q t p >> m) ≡ ok a → (t ≡ true) × (m ≡ ok a)
@@ -28,6 +32,12 @@ seq-passed (error n) k {b} e =
 pub bind-passed : {A B : Type 0} (m : Result A) (f : A → Result B) {b : B} → (m >>= f) ≡ ok b → (a : A) × ((m ≡ ok a) × (f a ≡ ok b))
 bind-passed (ok a) f e = (a, (refl, e))
 bind-passed (error n) f {b} e =
+    let z : _≡_ {A = ℕ} 0 1 = cc in
+    absurd (omega arith)
+
+pub orError-passed : {A : Type 0} (f : Failure) (m : Option A) {a : A} → orError f m ≡ ok a → m ≡ some a
+orError-passed f (some x) {a} e = ap some (same-value e)
+orError-passed f none e =
     let z : _≡_ {A = ℕ} 0 1 = cc in
     absurd (omega arith)
 

@@ -132,6 +132,10 @@ scalars-of-sequences (v ∷ vs) = rw (scalars-of-sequences vs)
 pub scalars8-utf8s : (vs : List ℕ) → Scalars vs → scalars8 (utf8s vs) ≡ some vs
 scalars8-utf8s vs h = ap scalarsOf (parts-utf8s vs h) ∙ scalars-of-sequences vs
 
+pub scalars8-empty : scalars8 [] ≡ some []
+unfolding flatMap
+scalars8-empty = scalars8-utf8s [] tt
+
 -- ---- what is read was encoded
 
 pub has-is : (s : List ℕ) (i lo hi : ℕ) → hasIn s i lo hi ≡ true → (i < length s) × (lo ≤ getD s i 0) × (getD s i 0 ≤ hi)

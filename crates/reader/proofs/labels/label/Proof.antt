@@ -1,7 +1,7 @@
 -- `reader::labels::label` meets its contract.
 -- Assumes nothing.
 use native.Mathlib.Omega.{arith}
-use Rattle.reader.proofs.LabelLaws.{blob-fits, placeholder-fits, part-fits, part-refused, part-of-blob, part-of-placeholder}
+use Rattle.reader.proofs.LabelLaws.{blob-fits, placeholder-fits, part-fits, part-refused, part-given}
 use borrow.Author.Needs.{needs}
 use Rattle.reader.proofs.labels.label.Statement.{statement}
 use Rattle.reader.proofs.labels.label.Tie as tie
@@ -25,6 +25,6 @@ label-spec =
     (λ c. search needs)
     (λ c. search needs)
     (λ c. search needs)
-    (λ c. search (part-of-blob, needs))
-    (λ c. search (part-of-placeholder, needs))
+    (λ c. search (part-given, needs))
+    (λ c. search (part-given, needs))
     (λ c. search (part-refused, needs)))
