@@ -57,8 +57,9 @@ fn of_writer() {
     build(b"too many objects", 349523, &mut [0; 16]);
 }
 
-// Headers alone, all offsets 40: the name heap is one empty piece.
+// No bytes, too few for a header, and headers alone, all offsets 40: the name heap is one empty piece.
 fn of_reader() {
+    open(b"no bytes", b"");
     open(b"39 bytes", &[0; 39]);
     open(
         b"one name",

@@ -184,11 +184,11 @@ module _ (n : ℕ) (few : n ≤ 349522) where
   in-order = sym (checkEach-yes 5 (isOrdered b) 0 8 (omega arith) (ordered 0 (omega arith))) ∙ each-holds 5 (isOrdered b) 8 ordered
 
   pub built-opens : opened (fileWrapper n) ≡ ok (built n)
-  unfolding opened opening.regions pieces
+  unfolding opened opening.layout opening.regions pieces
   built-opens =
       let l = length-file-wrapper n in
       let objects : (120 + 40 * n - (96 + 16 * n)) / 24 ≡ n + 1 = omega arith in
-      simp (le-leb (length b) 16777216 (omega arith), le-leb 40 (length b) (omega arith), within, in-order)
+      simp (le-leb (length b) 16777216 (omega arith), ne-eqb (length b) 0 (λ z. omega arith), le-leb 40 (length b) (omega arith), within, in-order)
       (rw (header-word 1 (omega arith), offset-is 0 (omega arith), offset-is 1 (omega arith), offset-is 2 (omega arith), offset-is 3 (omega arith), offset-is 4 (omega arith), offset-is 5 (omega arith), offset-is 6 (omega arith), offset-is 7 (omega arith), offsets-are n, file-heap n, saved-blocks, normal-blocks, objects))
 
   -- ---- names

@@ -113,7 +113,7 @@ module _ (b text : List ℕ) (p q : Piece) {n m need : ℕ} (a : IsLength b p n)
 
 module _ {b : List ℕ} {w : FileWrapper} (o : Opens b w) where
   pub entry-name : {i : ℕ} → i ≤ w .names → HasName b (w .offsets .o0) i
-  entry-name h = record { heap = o .heap; inside = omega (arith, o); most = omega (arith, o .names) }
+  entry-name h = record { inside = omega (arith, o); most = omega (arith, o .names) }
 
   entry-piece : {end index : ℕ} {p : Piece} → IsName b end index p → InBlob b p
   entry-piece n = record { order = n .order; inside = n .inside; most = o .most }

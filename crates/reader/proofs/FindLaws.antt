@@ -17,7 +17,7 @@ use Rattle.text.specs.declared.error.Failure.{Failure}
 use Rattle.text.specs.declared.error.MatError.{MatError}
 use Rattle.text.proofs.ResultLaws.{reply-is, check-passed, seq-passed}
 use Rattle.text.proofs.TestLaws.{either, equal-or, not-both}
-use Rattle.reader.specs.Names.{pieces, heapOf, nameBytes, FirstPiece, Standing}
+use Rattle.reader.specs.Names.{heapPieces, nameBytes, FirstPiece, Standing}
 use Rattle.reader.specs.Objects.{triplesFrom, checkTriple, checkTriples, recordTriples, objectTriples, position, isNamed, findProperty}
 use Rattle.reader.specs.ObjectStages.{TriplesIn, PassedTriples, triplesReplyOf, ReadsTriples, firstIndex, firstOf, isIn, flagged, shownIn, ToNames, Looks, Marks, Advances}
 use Rattle.reader.specs.Opening.{opened}
@@ -141,22 +141,22 @@ module _ (flags : List Bool) (first e x : ℕ) where
 -- ---- looking at a name
 
 module _ {b : List ℕ} {w : FileWrapper} {x start : ℕ} (n : ToNames b w x (x + 1) start) where
-  declared : x ≤ length (pieces (heapOf b (w .offsets .o0)))
+  declared : x ≤ length (heapPieces b (w .offsets .o0))
   declared = omega (arith, n .few, n .opens .names)
 
-  pub look-inside : start ≤ w .offsets .o0
-  look-inside = stand-inside (n .heap) declared
+  pub look-inside : (x ≡ 0 → ⊥) → start ≤ w .offsets .o0
+  look-inside z = stand-inside (n .heap) z declared
 
   module _ (wanted : List ℕ) {v : Bool} where
-    pub look-empty : x ≡ 0 → v ≡ same (lossy (take (40 - 40) (drop 40 b))) wanted → Looks b w wanted x (record { shown = v; next = start })
+    pub look-empty : x ≡ 0 → v ≡ same (lossy (take (0 - 0) (drop 0 b))) wanted → Looks b w wanted x (record { shown = v; next = start })
     unfolding nameBytes
     look-empty z l = record { is = l ∙ simp (eq-eqb x 0 z); heap = stand-empty (n .heap) z }
 
     pub look-piece : (x ≡ 0 → ⊥) → {e : ℕ} → FirstPiece b start (w .offsets .o0) e → v ≡ same (lossy (take (e - start) (drop start b))) wanted
         → Looks b w wanted x (record { shown = v; next = e + 1 })
     look-piece z {e} f l = record {
-      is = l ∙ ap (λ (s : List ℕ). same (lossy s) wanted) (part-slice start e b (f .order) ∙ stand-name (n .heap) declared z f);
-      heap = stand-next (n .heap) declared z f;
+      is = l ∙ ap (λ (s : List ℕ). same (lossy s) wanted) (part-slice start e b (f .order) ∙ stand-name (n .heap) z declared f);
+      heap = stand-next (n .heap) z declared f;
     }
 
 -- ---- a chunk of names
@@ -281,7 +281,7 @@ module _ {b : List ℕ} {w : FileWrapper} {i n : ℕ} (c : PassedTriples b w i n
   walk-start = record {
     few = omega arith;
     order = omega arith;
-    heap = stand-start (c .opens .heap);
+    heap = stand-start;
     is = of-none (shownIn b w wanted 0 0) (λ x. simp (in-none {first = 0} {e = 0} (omega arith) x)) b i n;
   }
 

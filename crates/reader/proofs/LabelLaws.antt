@@ -37,7 +37,7 @@ use Rattle.reader.specs.declared.labels.LabelReply.the-variants as reply
 use Rattle.reader.specs.declared.labels.Source.{Source}
 use Rattle.reader.specs.declared.labels.Source.the-variants as source
 use Rattle.reader.proofs.NameLaws.{opens, part-slice}
-use Rattle.reader.proofs.PieceLaws.{lengths-pieces, lengths-at, lengths-less, piece-at, starts-place, starts-name}
+use Rattle.reader.proofs.PieceLaws.{named-heap, named-piece, lengths-pieces, lengths-at, lengths-less, piece-at, starts-place, starts-name}
 
 -- ---- outcomes of the definition
 
@@ -65,8 +65,8 @@ module _ {b : List ℕ} {e i : ℕ} (n : HasName b e i) (least : 1 ≤ i) where
   name-inside : nameStart b e i + length (nameBytes b e i) ≤ e
   name-inside =
       let ps : List (List ℕ) = pieces (heapOf b e) in
-      let l : 40 ≤ e = n .heap in
-      omega (arith, lengths-at ps (i - 1) (omega (arith, n .most)), lengths-pieces (heapOf b e), length-slice 40 e b (n .inside), ap length is-piece)
+      let l : 40 ≤ e = named-heap n least in
+      omega (arith, lengths-at ps (i - 1) (omega (arith, named-piece n least)), lengths-pieces (heapOf b e), length-slice 40 e b (n .inside), ap length is-piece)
 
   name-at : take (length (nameBytes b e i)) (drop (nameStart b e i) b) ≡ nameBytes b e i
   name-at =
@@ -76,7 +76,7 @@ module _ {b : List ℕ} {e i : ℕ} (n : HasName b e i) (least : 1 ≤ i) where
       ∙ ap (drop (40 + m)) (sym (take-take (40 + m + k) e b name-inside))
       ∙ sym (cut (40 + m) k (take e b))
       ∙ ap (take k) (sym (drop-drop m 40 (take e b)))
-      ∙ rw is-piece (piece-at (heapOf b e) (i - 1) (omega (arith, n .most)))
+      ∙ rw is-piece (piece-at (heapOf b e) (i - 1) (omega (arith, named-piece n least)))
     where
       cut : (a k : ℕ) (xs : List ℕ) → take k (drop a xs) ≡ slice a (a + k) xs
       cut a k xs =
@@ -144,7 +144,7 @@ module _ {b placeholder : List ℕ} {i : ℕ} {p : Part} (a : Accepted b placeho
   named-in : HasName b (a .wrapper .offsets .o0) i
   named-in =
       let o = opens b (a .wrapper) (a .opened-is) in
-      record { heap = o .heap; inside = omega (arith, o); most = omega (arith, o .names, a .named) }
+      record { inside = omega (arith, o); most = omega (arith, o .names, a .named) }
 
   stored : p .source ≡ source.Blob → Stored b (a .wrapper) i p
   stored s = in-blob b placeholder (a .wrapper) i (a .is) s
@@ -188,13 +188,14 @@ module _ (b placeholder : List ℕ) (i : ℕ) {p : Part} (e : labelOf b placehol
       let same : a .wrapper ≡ c .wrapper = same-value (sym (a .opened-is) ∙ c .opened-is) in
       let t = stored a s in
       let u : Stored b (a .wrapper) j p = subst (λ (w : FileWrapper). Stored b w j p) (sym same) (stored c s) in
+      let few : i ≤ length (pieces (heapOf b (a .wrapper .offsets .o0))) = named-piece (named-in a) (t .least) in
       let ps : List (List ℕ) = pieces (heapOf b (a .wrapper .offsets .o0)) in
       let z : nameStart b (a .wrapper .offsets .o0) i ≡ nameStart b (a .wrapper .offsets .o0) j = sym (t .begins) ∙ u .begins in
-      let m : j ≤ length ps = omega (arith, named-in a .most, subst (λ (w : FileWrapper). j ≤ length (pieces (heapOf b (w .offsets .o0)))) (sym same) (named-in c .most)) in
+      let m : j ≤ length ps = subst (λ (w : FileWrapper). j ≤ length (pieces (heapOf b (w .offsets .o0)))) (sym same) (named-piece (named-in c) (stored c s .least)) in
       either (ltb i j)
       (λ y. absurd (omega (arith, lengths-less ps (i - 1) (j - 1) (omega (arith, ltb-true i j y, t .least)) (omega arith))))
       (λ y. either (ltb j i)
-      (λ x. absurd (omega (arith, lengths-less ps (j - 1) (i - 1) (omega (arith, ltb-true j i x, u .least)) (omega (arith, named-in a .most)))))
+      (λ x. absurd (omega (arith, lengths-less ps (j - 1) (i - 1) (omega (arith, ltb-true j i x, u .least)) (omega arith))))
       (λ x. omega (arith, ltb-false i j y, ltb-false j i x)))
 
 -- ---- the outcomes of `label_source`
@@ -234,7 +235,7 @@ module _ (b placeholder : List ℕ) (i : ℕ) {x : ParseReply} (e : parseReplyOf
 
         pub source-blob : (n ≡ 0 → ⊥) → labelReplyOf (reply.Part (record { source = source.Blob; start = start; length = n })) ≡ labelOf b placeholder i
         source-blob m =
-            let k : start ≡ nameStart b (w .offsets .o0) i = starts-place (opens b w (reply-is parseReplyOf e g) .heap) heap-inside s in
+            let k : start ≡ nameStart b (w .offsets .o0) i = starts-place heap-inside s in
             sym (told ∙ ap ok (simp (ne-eqb (length (ownBytes b w i)) 0 (λ z. m (bytes ∙ z))) (rw (sym bytes, k))))
 
 -- ---- the outcomes of `label`

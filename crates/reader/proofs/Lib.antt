@@ -6,6 +6,7 @@ pub mod CanonicalPayloadLaws
 pub mod CellLaws
 pub mod ClassLaws
 pub mod DecodeStringLaws
+pub mod EmptyBlobLaws
 pub mod FindLaws
 pub mod HeaderLaws
 pub mod LengthLaws

@@ -1,11 +1,12 @@
 -- What an opened blob has, and the outcomes of `name`.
 -- Assumes nothing.
 use mathlib.Core.Path.{_≡_, refl, sym, ap, _∙_, subst}
+use mathlib.Core.Bool.{_||_}
 use mathlib.Core.List.{List, [], _∷_, _++_}
 use Prim.Native.Nat.{ℕ, zero, suc, _-_, _^_, _≤_, _<_}
 use native.Mathlib.Omega.{arith}
 use borrow.Author.Tests.{le-leb, lt-leb, leb-true}
-use lib.Dec.{leb}
+use lib.Dec.{leb, eqb}
 use lib.ListN.{length, take, drop, length-append, length-drop}
 use lib.Seq.{slice}
 use Rattle.text.specs.Errors.{failureOf}
@@ -16,11 +17,11 @@ use Rattle.text.specs.declared.error.MatError.{MatError}
 use Rattle.text.specs.declared.error.MatError.the-variants.{NameIndexOutOfRange, OutputTooShort}
 use Rattle.text.specs.declared.utf8.LossyReply.{LossyReply}
 use Rattle.text.specs.declared.utf8.LossyReply.the-variants as lossyReply
-use Rattle.text.proofs.ResultLaws.{reply-is, check-passed, seq-passed, bind-passed, checkEach-passed}
+use Rattle.text.proofs.ResultLaws.{reply-is, same-value, check-passed, seq-passed, bind-passed, checkEach-passed}
 use Rattle.text.proofs.TestLaws.{either}
 use Rattle.reader.specs.Blocks.{blocks}
 use Rattle.reader.specs.Names.{nameBytes, HasName, IsName, InBlob}
-use Rattle.reader.specs.Opening.{declaredNames, offset, offsets, isWithin, isOrdered, pieceCount, fileWrapper, regions, opened, Opens}
+use Rattle.reader.specs.Opening.{declaredNames, offset, offsets, isWithin, isOrdered, pieceCount, fileWrapper, regions, layout, emptyWrapper, opened, Opens}
 use Rattle.reader.specs.Queries.{intoOutput, nameText}
 use Rattle.reader.specs.Replies.{parseReplyOf, nameReplyOf, WritesText}
 use Rattle.reader.specs.declared.file_wrapper.FileWrapper.{FileWrapper}
@@ -29,15 +30,16 @@ use Rattle.reader.specs.declared.file_wrapper.ParseReply.the-variants as
 use Rattle.reader.specs.declared.names.NameReply.{NameReply}
 use Rattle.reader.specs.declared.names.NameReply.the-variants as name
 use Rattle.reader.specs.declared.names.Piece.{Piece}
+use Rattle.reader.proofs.BlockLaws.{blocks-end}
+use Rattle.reader.proofs.PieceLaws.{from-here}
 
 -- ---- what an opened blob has
 
-pub opens : (b : List ℕ) (w : FileWrapper) → opened b ≡ ok w → Opens b w
-unfolding opened regions
-opens b w e =
-    let p1 = check-passed 1 (leb (length b) 16777216) (length b) _ e in
-    let p2 = check-passed 2 (leb 40 (length b)) (length b) _ (p1 .1) in
-    let p3 = seq-passed (checkEach 3 (isWithin b) 0 8) _ (p2 .1) in
+-- one with a header
+by-header : (b : List ℕ) (w : FileWrapper) → length b ≤ 16777216 → opened b ≡ ok w → layout b ≡ ok w → Opens b w
+unfolding layout regions
+by-header b w l o e =
+    let p3 = seq-passed (checkEach 3 (isWithin b) 0 8) _ e in
     let p4 = check-passed 4 (leb 40 (offset b 0)) 0 _ (p3 .1 .1) in
     let p5 = seq-passed (checkEach 5 (isOrdered b) 1 8) _ (p4 .1) in
     let p6 = check-passed 6 (leb (declaredNames b) (pieceCount b)) (pieceCount b) _ (p5 .1 .1) in
@@ -47,10 +49,9 @@ opens b w e =
     let i : fileWrapper b (p7 .0) (p8 .0) ≡ w = cc in
     subst (Opens b) i
     (record {
-      is = rw i e;
-      most = leb-true (length b) 16777216 (p1 .0);
-      names = leb-true (declaredNames b) (pieceCount b) (p6 .0);
-      heap = leb-true 40 (offset b 0) (p4 .0);
+      is = rw i o;
+      most = l;
+      names = rw (from-here 40 b (offset b 0) (leb-true 40 (offset b 0) (p4 .0))) (leb-true (declaredNames b) (pieceCount b) (p6 .0));
       classes = up (p5 .1 .0) 1 (omega arith) (omega arith);
       saveobj = up (p5 .1 .0) 2 (omega arith) (omega arith);
       records = up (p5 .1 .0) 3 (omega arith) (omega arith);
@@ -64,6 +65,31 @@ opens b w e =
   where
     up : {u : Unit {0}} → checkEach 5 (isOrdered b) 1 8 ≡ ok u → (k : ℕ) → 1 ≤ k → k < 8 → offset b (k - 1) ≤ offset b k
     up r k h m = leb-true (offset b (k - 1)) (offset b k) (checkEach-passed 5 (isOrdered b) 1 8 r k h m)
+
+pub opens : (b : List ℕ) (w : FileWrapper) → opened b ≡ ok w → Opens b w
+unfolding opened
+opens b w e =
+    let p1 = check-passed 1 (leb (length b) 16777216) (length b) _ e in
+    let p2 = check-passed 2 (eqb (length b) 0 || leb 40 (length b)) (length b) _ (p1 .1) in
+    let l = leb-true (length b) 16777216 (p1 .0) in
+    either (eqb (length b) 0)
+    (λ t. let i : emptyWrapper ≡ w = same-value (simp t at (p2 .1)) in
+    subst (Opens b) i
+    (record {
+      is = e ∙ ap ok (sym i);
+      most = l;
+      names = omega arith;
+      classes = omega arith;
+      saveobj = omega arith;
+      records = omega arith;
+      normalobj = omega arith;
+      inside = omega arith;
+      class-entries = refl;
+      object-records = refl;
+      saveobj-blocks = blocks-end 12 b 0 0 0 (omega arith);
+      normalobj-blocks = blocks-end 12 b 0 0 0 (omega arith);
+    }))
+    (λ t. by-header b w l e (simp t at (p2 .1)))
 
 -- what a reply of `parse` says
 pub parsed : (b : List ℕ) {x : ParseReply} {w : FileWrapper} → parseReplyOf x ≡ opened b → x ≡ parse.Parsed w → Opens b w
@@ -178,7 +204,7 @@ module _ (b : List ℕ) (i : ℕ) {x : ParseReply} (e : parseReplyOf x ≡ opene
     pub has-name : i ≤ w .names → HasName b (w .offsets .o0) i
     has-name h =
         let o = parsed b e g in
-        record { heap = o .heap; inside = omega (arith, o); most = omega (arith, o .names) }
+        record { inside = omega (arith, o); most = omega (arith, o .names) }
 
     pub in-blob : {end index : ℕ} {p : Piece} → IsName b end index p → InBlob b p
     in-blob n = record { order = n .order; inside = n .inside; most = parsed b e g .most }

@@ -13,7 +13,7 @@ use Rattle.text.specs.Utf8.{beforeZero}
 use Rattle.text.proofs.BufferLaws.{slice-more}
 use Rattle.text.proofs.TerminatedLaws.{before-none, before-zero, before-more}
 use Rattle.text.proofs.TestLaws.{either}
-use Rattle.reader.specs.Names.{onto, pieces, piecesFrom, heapOf, nameBytes, lengthWithZeros, nameStart, zeros, Counted, Skips, HasPiece, Starts, FirstPiece, Standing, HasName, IsName}
+use Rattle.reader.specs.Names.{onto, pieces, piecesFrom, heapOf, nameBytes, lengthWithZeros, nameStart, heapPieces, zeros, Counted, Skips, HasPiece, Starts, FirstPiece, Standing, HasName, IsName}
 use Rattle.reader.specs.declared.names.Skipped.{Skipped}
 
 length-onto : (x : ℕ) (ps : List (List ℕ)) → 1 ≤ length ps → length (onto x ps) ≡ length ps
@@ -98,7 +98,7 @@ pub record Seeking (b : List ℕ) (e index k i : ℕ) : Type 0 where
   pub bound : i ≤ e
   pub order : k ≤ index
   pub most : index - k < length (pieces (slice i e b))
-  pub rest : drop (index - k) (pieces (slice i e b)) ≡ drop (index - 1) (pieces (heapOf b e))
+  pub rest : drop (index - k) (pieces (slice i e b)) ≡ drop (index - 1) (heapPieces b e)
 
 onto-later : (x : ℕ) (ps : List (List ℕ)) (j : ℕ) → 1 ≤ length ps → drop (suc j) (onto x ps) ≡ drop (suc j) ps
 onto-later x [] j h = absurd (omega arith)
@@ -118,19 +118,27 @@ pieces-later (x ∷ xs) ys j =
     (λ e. simp e (rw z (pieces-later xs ys j)))
     (λ e. simp e (rw y (onto-later x (pieces (xs ++ ys)) (zeros xs + j) (pieces-some (xs ++ ys)) ∙ rw w at (pieces-later xs ys j))))
 
-from-here : (i : ℕ) (b : List ℕ) (e : ℕ) → i ≤ e → piecesFrom b e i ≡ pieces (slice i e b)
+pub from-here : (i : ℕ) (b : List ℕ) (e : ℕ) → i ≤ e → piecesFrom b e i ≡ pieces (slice i e b)
 unfolding piecesFrom
 from-here i b e h = simp (le-leb i e h)
 
-module _ {b : List ℕ} {e index : ℕ} where
-  pub first-starts : HasPiece b e index → index ≡ 1 → Starts b e index 40
-  first-starts p z = rw z (record { inside = p .heap; stands = record { rest = from-here 40 b e (p .heap) } })
+-- a heap with a piece does not end before byte 40
+pub heap-begins : (b : List ℕ) {e : ℕ} → 1 ≤ length (heapPieces b e) → 40 ≤ e
+unfolding piecesFrom
+heap-begins b {e} h = either (leb 40 e) (λ t. leb-true 40 e t) (λ t. absurd (omega (arith, simp t at h)))
 
-  pub seek-start : HasPiece b e index → (index ≡ 1 → ⊥) → {s : Skipped} → Skips b 40 e (index - 2) s → Seeking b e index (s .zeros + 1) (s .at)
-  seek-start p m {s} k =
+module _ {b : List ℕ} {e index : ℕ} (p : HasPiece b e index) where
+  pub piece-heap : 40 ≤ e
+  piece-heap = heap-begins b (omega (arith, p .least, p .most))
+
+  pub first-starts : index ≡ 1 → Starts b e index 40
+  first-starts z = rw z (record { inside = piece-heap; stands = record { rest = refl } })
+
+  pub seek-start : (index ≡ 1 → ⊥) → {s : Skipped} → Skips b 40 e (index - 2) s → Seeking b e index (s .zeros + 1) (s .at)
+  seek-start m {s} k =
       let xs : List ℕ = slice 40 (s .at) b in
       let ys : List ℕ = slice (s .at) e b in
-      let split : heapOf b e ≡ xs ++ ys = slice-split 40 (s .at) e b (k .counted .order) (k .bound) in
+      let split : heapPieces b e ≡ pieces (xs ++ ys) = from-here 40 b e piece-heap ∙ ap pieces (slice-split 40 (s .at) e b (k .counted .order) (k .bound)) in
       let j : ℕ = index - 2 - s .zeros in
       let n : index - (s .zeros + 1) ≡ suc j = omega (arith, p .least, k .few) in
       let z : index - 1 ≡ zeros xs + suc j = omega (arith, p .least, k .few, k .counted .is) in
@@ -138,10 +146,11 @@ module _ {b : List ℕ} {e index : ℕ} where
         inside = p .inside;
         bound = k .bound;
         order = omega (arith, p .least, k .few);
-        most = omega (arith, p .most, p .least, k .few, k .counted .is, ap length (ap pieces split), length-pieces (xs ++ ys), zeros-append xs ys, length-pieces ys);
+        most = omega (arith, p .most, p .least, k .few, k .counted .is, ap length split, length-pieces (xs ++ ys), zeros-append xs ys, length-pieces ys);
         rest = rw (n, z, split) (sym (pieces-later xs ys j));
       }
 
+module _ {b : List ℕ} {e index : ℕ} where
   module _ {k i : ℕ} (s : Seeking b e index k i) where
     -- a piece further on is not the last, so a byte is left
     pub seek-here : k < index → i < e
@@ -261,10 +270,14 @@ module _ {b : List ℕ} {start e : ℕ} where
 
 -- ---- walking the heap
 
+-- a declared name's bytes are its piece
+name-is : (b : List ℕ) {e i : ℕ} → (i ≡ 0 → ⊥) → 40 ≤ e → nameBytes b e i ≡ getD (heapPieces b e) (i - 1) []
+unfolding nameBytes
+name-is b {e} {i} some h = simp (ne-eqb i 0 some) (ap (λ (ps : List (List ℕ)). getD ps (i - 1) []) (sym (from-here 40 b e h)))
+
 module _ {b : List ℕ} {e : ℕ} where
-  pub stand-start : 40 ≤ e → Standing b e 0 40
-  unfolding piecesFrom
-  stand-start h = record { rest = simp (le-leb 40 e h) }
+  pub stand-start : Standing b e 0 40
+  stand-start = record { rest = refl }
 
   module _ {x start : ℕ} (s : Standing b e x start) where
     -- the empty name has no bytes
@@ -273,42 +286,50 @@ module _ {b : List ℕ} {e : ℕ} where
         let k : x - 1 ≡ x + 1 - 1 = omega arith in
         record { rest = rw k at (s .rest) }
 
-    module _ (h : x ≤ length (pieces (heapOf b e))) where
+    module _ (some : x ≡ 0 → ⊥) (h : x ≤ length (heapPieces b e)) where
       pub stand-inside : start ≤ e
       unfolding piecesFrom
       stand-inside =
           either (leb start e) (λ t. leb-true start e t)
-          (λ t. absurd (omega (arith, ap length (simp t at (s .rest)), length-drop (x - 1) (pieces (heapOf b e)), pieces-some (heapOf b e))))
+          (λ t. absurd (omega (arith, ap length (simp t at (s .rest)), length-drop (x - 1) (heapPieces b e))))
 
-      module _ (some : x ≡ 0 → ⊥) {i : ℕ} (f : FirstPiece b start e i) where
-        here : slice start i b ∷ piecesFrom b e (i + 1) ≡ drop (x - 1) (pieces (heapOf b e))
-        unfolding piecesFrom
-        here = sym (f .is) ∙ simp (le-leb start e stand-inside) at (s .rest)
+      module _ {i : ℕ} (f : FirstPiece b start e i) where
+        here : slice start i b ∷ piecesFrom b e (i + 1) ≡ drop (x - 1) (heapPieces b e)
+        here = sym (f .is) ∙ sym (from-here start b e stand-inside) ∙ s .rest
 
         pub stand-name : slice start i b ≡ nameBytes b e x
-        unfolding nameBytes
         stand-name =
-            let z : x - 1 ≡ x - 1 + 0 = omega arith in
-            simp (ne-eqb x 0 some) (rw z (ap (λ (ps : List (List ℕ)). getD ps 0 []) here ∙ getD-drop (x - 1) (pieces (heapOf b e)) 0 []))
+            let z : x - 1 + 0 ≡ x - 1 = omega arith in
+            ap (λ (ps : List (List ℕ)). getD ps 0 []) here
+            ∙ getD-drop (x - 1) (heapPieces b e) 0 []
+            ∙ ap (λ (k : ℕ). getD (heapPieces b e) k []) z
+            ∙ sym (name-is b some (heap-begins b (omega arith)))
 
         pub stand-next : Standing b e (x + 1) (i + 1)
         stand-next =
             let z : x - 1 + 1 ≡ x + 1 - 1 = omega arith in
-            record { rest = rw z at (ap (drop 1) here ∙ drop-drop 1 (x - 1) (pieces (heapOf b e))) }
+            record { rest = rw z at (ap (drop 1) here ∙ drop-drop 1 (x - 1) (heapPieces b e)) }
 
 -- ---- a name
 
 module _ {b : List ℕ} {e index : ℕ} (n : HasName b e index) where
-  pub name-empty : index ≡ 0 → IsName b e index (record { start = 40; end = 40 })
+  pub name-empty : index ≡ 0 → IsName b e index (record { start = 0; end = 0 })
   unfolding nameBytes
-  name-empty z = record { order = omega arith; inside = omega (arith, n .heap, n .inside); is = slice-empty 40 b ∙ sym (simp (eq-eqb index 0 z)) }
+  name-empty z = record { order = omega arith; inside = omega arith; is = slice-empty 0 b ∙ sym (simp (eq-eqb index 0 z)) }
+
+  module _ (least : 1 ≤ index) where
+    pub named-heap : 40 ≤ e
+    named-heap = heap-begins b (omega (arith, n .most))
+
+    pub named-piece : index ≤ length (pieces (heapOf b e))
+    named-piece = omega (arith, n .most, ap length (from-here 40 b e named-heap))
 
   module _ (some : index ≡ 0 → ⊥) where
     pub has-piece : HasPiece b e index
-    has-piece = record { heap = n .heap; inside = n .inside; least = omega arith; most = n .most }
+    has-piece = record { inside = n .inside; least = omega arith; most = n .most }
 
     pub name-found : {i j : ℕ} → Starts b e index i → FirstPiece b i e j → IsName b e index (record { start = i; end = j })
-    name-found s f = record { order = f .order; inside = omega (arith, f .inside, n .inside); is = stand-name (s .stands) (n .most) some f }
+    name-found s f = record { order = f .order; inside = omega (arith, f .inside, n .inside); is = stand-name (s .stands) some (n .most) f }
 
 -- ---- where a piece begins
 
@@ -374,14 +395,25 @@ piece-at (x ∷ xs) k h =
     (λ t. simp t (after-zero x xs (pieces xs) each k (simp t at h)))
     (λ t. simp t (in-piece x xs (pieces xs) (pieces-some xs) each k (simp t at h)))
 
+-- where a piece begins there is a heap, and the pieces from there on are its last
+module _ {b : List ℕ} {e index i : ℕ} (s : Starts b e index i) where
+  begins : 40 ≤ e
+  begins =
+      let from = ap length (sym (from-here i b e (s .inside)) ∙ s .stands .rest) in
+      heap-begins b (omega (arith, from, pieces-some (slice i e b), length-drop (index - 1) (heapPieces b e)))
+
+  last-pieces : pieces (slice i e b) ≡ drop (index - 1) (pieces (heapOf b e))
+  last-pieces = sym (from-here i b e (s .inside)) ∙ s .stands .rest ∙ ap (drop (index - 1)) (from-here 40 b e begins)
+
 -- the pieces from i on leave their own length for those before them
-pub starts-place : {b : List ℕ} {e index i : ℕ} → 40 ≤ e → e ≤ length b → Starts b e index i → i ≡ nameStart b e index
-starts-place {b} {e} {index} {i} h l s =
+pub starts-place : {b : List ℕ} {e index i : ℕ} → e ≤ length b → Starts b e index i → i ≡ nameStart b e index
+starts-place {b} {e} {index} {i} l s =
     let ps : List (List ℕ) = pieces (heapOf b e) in
     let k : ℕ = index - 1 in
+    let h : 40 ≤ e = begins s in
     let whole = lengths-pieces (heapOf b e) in
     let cut = ap lengthWithZeros (sym (take-append-drop k ps)) ∙ lengths-append (take k ps) (drop k ps) in
-    let rest = ap lengthWithZeros (sym (from-here i b e (s .inside)) ∙ s .stands .rest) in
+    let rest = ap lengthWithZeros (last-pieces s) in
     omega (arith, whole, cut, rest, lengths-pieces (slice i e b), length-slice i e b l, length-slice 40 e b l, s .inside)
 
 -- the first piece is what stands before the first zero byte
@@ -403,6 +435,6 @@ starts-name {b} {e} {index} {i} some s =
     let ps : List (List ℕ) = pieces (heapOf b e) in
     let z : index - 1 + 0 ≡ index - 1 = omega arith in
     sym (first-piece (slice i e b))
-    ∙ ap (λ (qs : List (List ℕ)). getD qs 0 []) (sym (from-here i b e (s .inside)) ∙ s .stands .rest)
+    ∙ ap (λ (qs : List (List ℕ)). getD qs 0 []) (last-pieces s)
     ∙ getD-drop (index - 1) ps 0 []
     ∙ simp (ne-eqb index 0 some) (ap (λ (k : ℕ). getD ps k []) z)

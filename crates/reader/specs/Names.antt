@@ -65,12 +65,15 @@ pub record Skips (b : List ℕ) (start end most : ℕ) (s : Skipped) : Type 0 wh
   pub few : s .zeros ≤ most
   pub counted : Counted b start (s .at) (s .zeros)
 
+-- the pieces of the heap up to end; none where it would end before byte 40, as in a blob of length 0
+abbrev pub heapPieces : List ℕ → ℕ → List (List ℕ)
+heapPieces b end = piecesFrom b end 40
+
 -- the heap up to end has piece index, from 1
 pub record HasPiece (b : List ℕ) (end index : ℕ) : Type 0 where
-  pub heap : 40 ≤ end
   pub inside : end ≤ length b
   pub least : 1 ≤ index
-  pub most : index ≤ length (pieces (heapOf b end))
+  pub most : index ≤ length (heapPieces b end)
 
 -- the first piece from start on ends at i, and the next one begins after it
 pub record FirstPiece (b : List ℕ) (start end i : ℕ) : Type 0 where
@@ -80,13 +83,12 @@ pub record FirstPiece (b : List ℕ) (start end i : ℕ) : Type 0 where
 
 -- name index is the empty name or a piece of the heap
 pub record HasName (b : List ℕ) (end index : ℕ) : Type 0 where
-  pub heap : 40 ≤ end
   pub inside : end ≤ length b
-  pub most : index ≤ length (pieces (heapOf b end))
+  pub most : index ≤ length (heapPieces b end)
 
 -- piece x, where there is one, begins at start; for the empty name, 0, piece 1
 pub record Standing (b : List ℕ) (end x start : ℕ) : Type 0 where
-  pub rest : piecesFrom b end start ≡ drop (x - 1) (pieces (heapOf b end))
+  pub rest : piecesFrom b end start ≡ drop (x - 1) (heapPieces b end)
 
 -- there is piece index, and it begins at i
 pub record Starts (b : List ℕ) (end index i : ℕ) : Type 0 where

@@ -2,13 +2,13 @@
 -- Assumes nothing.
 use Prim.Native.Nat.{ℕ, _+_, _-_, _*_, _/_, _≤_}
 use mathlib.Core.Path.{_≡_}
-use mathlib.Core.Bool.{Bool}
+use mathlib.Core.Bool.{Bool, cond, _||_}
 use mathlib.Core.List.{List}
-use lib.Dec.{leb}
+use lib.Dec.{leb, eqb}
 use lib.ListN.{length}
 use Rattle.text.specs.Result.{Result, ok, check, checkEach, _>>_, _>>=_}
 use Rattle.reader.specs.Blocks.{blocks}
-use Rattle.reader.specs.Names.{pieces, heapOf}
+use Rattle.reader.specs.Names.{pieces, heapOf, heapPieces}
 use Rattle.reader.specs.Wire.{u32At}
 use Rattle.reader.specs.declared.file_wrapper.FileWrapper.{FileWrapper}
 use Rattle.reader.specs.declared.file_wrapper.Offsets.{Offsets}
@@ -65,15 +65,31 @@ regions b = do
   normal ← blocks 12 b (offset b 3) (offset b 4)
   ok (fileWrapper b saved normal)
 
--- "Opening a blob": 1 to 5, then 6 and 7
-unfoldable pub opened : List ℕ → Result FileWrapper
-opened b = do
-  check 1 (leb (length b) 16777216) (length b)
-  check 2 (leb 40 (length b)) (length b)
+-- 3 to 7, of a blob that has a header
+unfoldable pub layout : List ℕ → Result FileWrapper
+layout b = do
   checkEach 3 (isWithin b) 0 8
   check 4 (leb 40 (offset b 0)) 0
   checkEach 5 (isOrdered b) 1 8
   regions b
+
+-- "A blob of length 0 now opens: no names, no classes, no objects." (document 02, P2) Its blocks and offsets are free; they are 0.
+abbrev pub emptyWrapper : FileWrapper
+emptyWrapper = record {
+  names = 0;
+  classes = 0;
+  records = 0;
+  «saveobj_blocks» = 0;
+  «normalobj_blocks» = 0;
+  offsets = record { o0 = 0; o1 = 0; o2 = 0; o3 = 0; o4 = 0; o5 = 0; o6 = 0; o7 = 0 };
+}
+
+-- "Opening a blob": 1; 2, which "reads: 0, or at least 40" (P2); then 3 to 7 unless the length is 0
+unfoldable pub opened : List ℕ → Result FileWrapper
+opened b = do
+  check 1 (leb (length b) 16777216) (length b)
+  check 2 (eqb (length b) 0 || leb 40 (length b)) (length b)
+  cond (eqb (length b) 0) (ok emptyWrapper) (layout b)
 
 -- checks 1 to 5 hold: the offsets are in order and inside the blob
 pub record Ordered (b : List ℕ) (o : Offsets) : Type 0 where
@@ -92,8 +108,7 @@ pub record Ordered (b : List ℕ) (o : Offsets) : Type 0 where
 pub record Opens (b : List ℕ) (w : FileWrapper) : Type 0 where
   pub is : opened b ≡ ok w
   pub most : length b ≤ 16777216
-  pub names : w .names ≤ length (pieces (heapOf b (w .offsets .o0)))
-  pub heap : 40 ≤ w .offsets .o0
+  pub names : w .names ≤ length (heapPieces b (w .offsets .o0))
   pub classes : w .offsets .o0 ≤ w .offsets .o1
   pub saveobj : w .offsets .o1 ≤ w .offsets .o2
   pub records : w .offsets .o2 ≤ w .offsets .o3

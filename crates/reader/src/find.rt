@@ -67,7 +67,7 @@ fn look_at(blob: &[u8], w: FileWrapper, index: usize, start: usize, wanted: &[u8
     ensures { λ r. ⌜ Looks (now (blob .entry)) w (now (wanted .entry)) index r ⌝ }
 {
     if index == 0 {
-        let shown = is_lossy(&blob[HEADER..HEADER], wanted);
+        let shown = is_lossy(&blob[0..0], wanted);
         return Looked { shown, next: start };
     }
     let end = piece_end(blob, start, w.offsets.o0);

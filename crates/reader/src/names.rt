@@ -131,7 +131,7 @@ pub(crate) fn name_piece(blob: &[u8], end: usize, index: usize) -> Piece
     ensures { λ r. ⌜ IsName (now (blob .entry)) end index r ⌝ }
 {
     if index == 0 {
-        return Piece { start: 40, end: 40 };
+        return Piece { start: 0, end: 0 };
     }
     let start = piece_start(blob, end, index);
     Piece {

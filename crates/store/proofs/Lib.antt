@@ -5,6 +5,7 @@ pub mod CheckLaws
 pub mod StageLaws
 pub mod ReplaceLaws
 pub mod EditLaws
+pub mod EmptyBlobLaws
 pub mod Examples
 pub mod MoveLaws
 pub mod SpliceLaws

@@ -1,7 +1,7 @@
 -- `reader::names::piece_start` meets its contract.
 -- Assumes nothing.
 use Prim.Native.Nat.{_-_}
-use Rattle.reader.proofs.PieceLaws.{Seeking, first-starts, seek-start, seek-read, seek-less, seek-zero, seek-byte, seek-last}
+use Rattle.reader.proofs.PieceLaws.{Seeking, piece-heap, first-starts, seek-start, seek-read, seek-less, seek-zero, seek-byte, seek-last}
 use borrow.Author.Needs.{needs}
 use Rattle.reader.proofs.names.piece_start.Statement.{statement}
 use Rattle.reader.proofs.names.piece_start.Tie as tie
@@ -15,4 +15,4 @@ abbrev μ-loop : tie.MeasureT-loop
 pub piece-start-spec : {M : Type 1} → statement M
 piece-start-spec =
     tie.close
-    (tie.spec Inv-loop μ-loop (λ c. search (first-starts, needs)) (λ c. search needs) (λ c κs. search needs) (λ c. search needs) (λ c. search (seek-start, needs)) (λ c. search (seek-read, needs)) (λ c. search needs) (λ c. search needs) (λ c. search (seek-less, needs)) (λ c. search (seek-zero, needs)) (λ c. search needs) (λ c. search (seek-less, needs)) (λ c. search (seek-byte, needs)) (λ c. search (seek-last, needs)))
+    (tie.spec Inv-loop μ-loop (λ c. search (first-starts, needs)) (λ c. search needs) (λ c κs. search (piece-heap, needs)) (λ c. search needs) (λ c. search (seek-start, needs)) (λ c. search (seek-read, needs)) (λ c. search needs) (λ c. search needs) (λ c. search (seek-less, needs)) (λ c. search (seek-zero, needs)) (λ c. search needs) (λ c. search (seek-less, needs)) (λ c. search (seek-byte, needs)) (λ c. search (seek-last, needs)))
