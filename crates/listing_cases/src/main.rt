@@ -5,7 +5,8 @@
 // shown at a time; an object of class id 0 whose region begins at byte 68, so that its block is found only by rounding from the blob's start;
 // a name whose repaired text has 65,536 bytes, as a class, a property's name and a value, and as a class after an empty namespace, whose full
 // stop is one byte too many; a class of 1,401 bytes, each of which is escaped, after 61,440 bytes of output, so that as much of the output
-// buffer is left as a chunk of it needs; 5,451 properties, the most that a blob of 65,536 bytes can have.
+// buffer is left as a chunk of it needs; 5,451 properties, the most that a blob of 65,536 bytes can have; no bytes, one byte, and a header
+// alone, which are the shortest blobs that open and the shortest that does not.
 use libc::STDIN_FILENO;
 use libc::STDOUT_FILENO;
 ghost use mathlib.Core.Path.{_≡_};
