@@ -4,6 +4,7 @@ use crate::fields::ArrayLengths;
 use crate::fields::Number;
 use crate::fields::StoreLengths;
 use crate::render;
+use reader::classes::class_name;
 use reader::classes::object_class_name;
 use reader::decode::decode_string;
 use reader::file_wrapper::FileWrapper;
@@ -161,16 +162,24 @@ pub fn open(line: &[u8]) -> Verdict {
     compare(line, 2, answer, n)
 }
 
-// The class of an object, or the name of an index.
-fn write_text(blob: &[u8], is_class: bool, number: u32, text: &mut [u8]) -> NameReply {
-    if is_class {
-        return object_class_name(blob, number, text);
-    }
-    reader::names::name(blob, number, text)
+// Whose text a call asks for.
+enum Owner {
+    Name,
+    Object,
+    Class,
 }
 
-// The calls name and class, which differ only in whose text they ask for.
-fn name_or_class(line: &[u8], is_class: bool) -> Verdict {
+// The name of an index, the class of an object, or that of a class id.
+fn write_text(blob: &[u8], owner: Owner, number: u32, text: &mut [u8]) -> NameReply {
+    match owner {
+        Owner::Name => reader::names::name(blob, number, text),
+        Owner::Object => object_class_name(blob, number, text),
+        Owner::Class => class_name(blob, number, text),
+    }
+}
+
+// The calls name, class and classid, which differ only in whose text they ask for.
+fn text_of(line: &[u8], owner: Owner) -> Verdict {
     let blob: &mut [u8] = &mut io::buffer();
     let text: &mut [u8] = &mut io::buffer();
     let answer: &mut [u8] = &mut io::buffer();
@@ -191,7 +200,7 @@ fn name_or_class(line: &[u8], is_class: bool) -> Verdict {
     }
     let n = match write_text(
         fields::part(blob, 0, bytes),
-        is_class,
+        owner,
         number as u32,
         &mut text[0..length],
     ) {
@@ -203,12 +212,17 @@ fn name_or_class(line: &[u8], is_class: bool) -> Verdict {
 
 // name BLOB index text-length
 pub fn name(line: &[u8]) -> Verdict {
-    name_or_class(line, false)
+    text_of(line, Owner::Name)
 }
 
 // class BLOB id text-length
 pub fn class(line: &[u8]) -> Verdict {
-    name_or_class(line, true)
+    text_of(line, Owner::Object)
+}
+
+// classid BLOB class-id text-length
+pub fn classid(line: &[u8]) -> Verdict {
+    text_of(line, Owner::Class)
 }
 
 // wordlist WORDS32

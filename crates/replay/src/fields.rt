@@ -1,4 +1,4 @@
-// The fields of a line, parted by single spaces, and the numbers in them.
+// The fields of a line, with spaces between them, and the numbers in them.
 use writer::string_object::LengthReply;
 use writer::string_object::build_string_filewrapper_metadata;
 ghost use mathlib.Core.Path.{_≡_};
@@ -104,16 +104,22 @@ pub fn first_words(words: &[u64], n: usize) -> &[u64] {
     &words[0..0]
 }
 
+// Whether a field begins after an index: the last of several spaces stands there.
+fn parts_fields(line: &[u8], i: usize) -> bool {
+    let here = part(line, i, line.len());
+    starts_with(here, b" ") && !starts_with(here, b"  ")
+}
+
 // The index at which a field begins, counted from 0, or the length where the line has fewer.
 fn start_of(line: &[u8], field: usize) -> usize {
-    let mut spaces = field;
+    let mut left = field;
     let mut i = 0;
     while i < line.len() {
-        if spaces == 0 {
+        if left == 0 {
             return i;
         }
-        if line[i] == b' ' {
-            spaces -= 1;
+        if parts_fields(line, i) {
+            left -= 1;
         }
         i += 1;
     }
@@ -339,26 +345,55 @@ pub fn words32(field: &[u8], out: &mut [u32]) -> Number {
     Number::Unreadable
 }
 
-// Words of 64 bits, in the same form.
+// A word a number of times, at least once, written to out from an index on: the index after them.
+fn put_word_times(word: u64, times: usize, out: &mut [u64], at: usize) -> Number {
+    if times == 0 {
+        return Number::Unreadable;
+    }
+    let mut n = at;
+    let mut left = times;
+    while 0 < left {
+        if out.len() <= n {
+            return Number::Unreadable;
+        }
+        out[n] = word;
+        n += 1;
+        left -= 1;
+    }
+    Number::Value(n)
+}
+
+// A word in hexadecimal, or `x*n` for n times the word x, in the same way.
+fn put_words(text: &[u8], out: &mut [u64], at: usize) -> Number {
+    let star = find(text, 0, b'*');
+    let Number::Value(word) = value_of(part(text, 0, star), 16) else {
+        return Number::Unreadable;
+    };
+    if star == text.len() {
+        return put_word_times(word as u64, 1, out, at);
+    }
+    let Number::Value(times) = decimal(part(text, star + 1, text.len())) else {
+        return Number::Unreadable;
+    };
+    put_word_times(word as u64, times, out, at)
+}
+
+// Words of 64 bits, each perhaps with how often it stands there, in the same form.
 pub fn words(field: &[u8], out: &mut [u64]) -> Number {
     if same(field, b"-") {
         return Number::Value(0);
     }
-    let mut start = 0;
     let mut n = 0;
-    while n < out.len() {
+    let mut start = 0;
+    while start <= field.len() {
         let end = find(field, start, b',');
-        let Number::Value(word) = value_of(part(field, start, end), 16) else {
+        let Number::Value(next) = put_words(part(field, start, end), out, n) else {
             return Number::Unreadable;
         };
-        out[n] = word as u64;
-        n += 1;
-        if end == field.len() {
-            return Number::Value(n);
-        }
+        n = next;
         start = end + 1;
     }
-    Number::Unreadable
+    Number::Value(n)
 }
 
 // BLOB DIRECTORY KINDS WORDS, which stand from field 1 on.

@@ -44,13 +44,15 @@ const REPLACEIN: usize = 15;
 
 const LABEL: usize = 16;
 
-const OTHER: usize = 17;
+const CLASSID: usize = 17;
 
-const KINDS: usize = 18;
+const OTHER: usize = 18;
+
+const KINDS: usize = 19;
 
 // The names of the calls in the order of their numbers.
-const NAMES: [u8; 112] =
-    *b"utf16 lossy write build open name class wordlist props find payload road1 road2 objects appendto replacein label";
+const NAMES: [u8; 120] =
+    *b"utf16 lossy write build open name class wordlist props find payload road1 road2 objects appendto replacein label classid";
 
 // The longest line. No answer is longer than its line, so the calls have buffers of as many elements. An argument in shorthand that does
 // not fit one is unreadable.
@@ -103,6 +105,7 @@ fn replay(line: &[u8], seen: &mut [u64; KINDS], agreed: &mut [u64; KINDS]) {
         APPENDTO => edits::appendto(line),
         REPLACEIN => edits::replacein(line),
         LABEL => labels::label(line),
+        CLASSID => calls::classid(line),
         _ => Verdict::Unknown,
     };
     count(seen, call);
