@@ -16,7 +16,8 @@
  * What a caller must keep, since the proofs take it for granted:
  *   - a slice is a pointer and its number of ELEMENTS, not bytes;
  *   - there is memory for that many elements, and its bytes are fewer than 2^63;
- *   - no pointer is NULL, also where the number of elements is 0, and each is aligned;
+ *   - no pointer is NULL, also where the number of elements is 0, as for an empty blob, and each
+ *     is aligned;
  *   - what is written (a pointer without const) overlaps nothing else of the same call.
  *
  * *place is read in a statement of its own, after the call. Where call and place stand in one
@@ -30,7 +31,7 @@
  *
  *   Opening a blob
  *    1  it has at most 16,777,216 bytes                          its length
- *    2  it has at least 40 bytes                                 its length
+ *    2  it has 0 bytes, or at least 40                           its length
  *    3  its eight offsets lie within it                          index of the first that does not
  *    4  offset 0 is at least 40                                  0
  *    5  no offset is below the one before it                     index of the first that is
@@ -186,9 +187,13 @@ uint32_t mcos_build_string_filewrapper_metadata(uint64_t object_count,
                                                 uint8_t *blob, uintptr_t blob_len,
                                                 uint64_t *length, uint64_t *place);
 
-/* ---- Reading a metadata blob ---- */
+/* ---- Reading a metadata blob ----
+ *
+ * A blob of 0 bytes stands for a file without string objects, one that has no subsystem. It opens
+ * with no names, no classes and no objects; 3 to 7 are not put to it. Every class id is then
+ * refused by 9 and every object id by 8, and the object listing has no rows. */
 
-/* Opens a blob.
+/* Opens a blob. The layout of a blob of 0 bytes is all 0.
  * Checks: 1 to 7.
  * Accepted: *layout. */
 uint32_t mcos_parse(const uint8_t *blob, uintptr_t blob_len,
@@ -318,8 +323,9 @@ uint32_t mcos_decode_string_object(const uint8_t *blob, uintptr_t blob_len,
  *   directory   the pair of each payload: offset and length in words
  *   kinds       0 for each
  *
- * The empty store is the counts 0, 144, 0 with the blob that is built for 0 objects. The calls
- * that read a store are lent its counted part.
+ * The empty store is the counts 0, 144, 0 with the blob that is built for 0 objects. A blob of 0
+ * bytes is in no written form: with blob_bytes 0 every edit is refused by 33, if 13 holds. The
+ * calls that read a store are lent its counted part.
  *
  * An accepted edit leaves the written form of the new arrays and their counts; words that are given
  * up become 0, and all else beyond the counts keeps what it held. A refused edit writes *place

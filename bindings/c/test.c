@@ -347,6 +347,67 @@ static void edit_calls(void)
     REFUSED(replace(1, span, 2, 12), 13, 2);
 }
 
+/* A file without string objects. There is nothing to read where its blob would begin. */
+static void empty_blob_calls(void)
+{
+    const uint8_t *empty = blob + sizeof blob;
+    const mcos_file_wrapper nothing = {0};
+    mcos_file_wrapper layout;
+    KEEP(layout), fresh();
+    CHECK(accepted(mcos_parse(empty, 0, &layout, &place)) && memcmp(&layout, &nothing, sizeof nothing) == 0);
+    KEEP(layout);
+    for (uint64_t length = 1; length < 40; length++) {
+        fresh();
+        CHECK(refused(mcos_parse(blob, length, &layout, &place), 2, length) && IS_KEPT(layout));
+    }
+
+    uint8_t text[2];
+    KEEP(text), fresh();
+    CHECK(accepted(mcos_name(empty, 0, 0, text, 0, &a, &place)) && a == 0);
+    fresh();
+    CHECK(refused(mcos_name(empty, 0, 1, text, 2, &a, &place), 11, 1));
+    CHECK(refused(mcos_class_name(empty, 0, 0, text, 2, &a, &place), 9, 0));
+    CHECK(refused(mcos_object_class_name(empty, 0, 0, text, 2, &a, &place), 8, 0));
+    CHECK(refused(mcos_object_class_name(empty, 0, 1, text, 2, &a, &place), 8, 1));
+    CHECK(IS_KEPT(text));
+
+    mcos_property properties[1];
+    mcos_object_row rows[1];
+    uint32_t found;
+    KEEP(properties), KEEP(rows), KEEP(found), fresh();
+    CHECK(refused(mcos_properties(empty, 0, 1, properties, 1, &a, &place), 8, 1) && IS_KEPT(properties));
+    CHECK(refused(mcos_find_property(empty, 0, UINT32_MAX, text, 0, &found, &a, &place), 8, UINT32_MAX) && IS_KEPT(found));
+    fresh();
+    CHECK(accepted(mcos_list_objects(empty, 0, rows, 1, &a, &place)) && a == 0 && IS_KEPT(rows));
+
+    mcos_part part;
+    KEEP(part), fresh();
+    CHECK(refused(mcos_label(empty, 0, letters, 5, 1, &part, &place), 11, 1) && IS_KEPT(part));
+    fresh();
+    CHECK(accepted(mcos_label(empty, 0, letters, 5, 0, &part, &place)) && is_part(part, MCOS_SOURCE_PLACEHOLDER, 0, 5));
+
+    /* The cells are read by opaque metadata, and by no object. */
+    const uint64_t words[] = {1, 0, 1, 'A'}, directory[] = {0, 4};
+    const uint32_t first[] = {0xDD000000, 0, 1, 1}, second[] = {0xDD000000, 0, 2, 1};
+    const uint8_t kinds[] = {0};
+    uint64_t spans[2];
+    KEEP(text), KEEP(spans), fresh();
+    CHECK(refused(mcos_decode_string(empty, 0, directory, 2, kinds, 1, words, 4, second, 4, text, 2, spans, 2, &a, &b, &place), 14, 2));
+    CHECK(refused(mcos_decode_string_object(empty, 0, directory, 2, kinds, 1, words, 4, 1, text, 2, spans, 2, &a, &b, &place), 8, 1));
+    CHECK(refused(mcos_decode_string_object(empty, 0, directory, 1, kinds, 1, words, 4, 1, text, 2, spans, 2, &a, &b, &place), 13, 1));
+    CHECK(IS_KEPT(text) && IS_KEPT(spans));
+    fresh();
+    CHECK(accepted(mcos_decode_string(empty, 0, directory, 2, kinds, 1, words, 4, first, 4, text, 2, spans, 2, &a, &b, &place)));
+    CHECK(a == 1 && b == 1 && text[0] == 'A' && text[1] == 0xA5 && spans[0] == 0 && spans[1] == 1);
+
+    /* No edit of such a store, though its buffer holds the blob for no objects. */
+    KEEP(store_directory), KEEP(store_kinds), KEEP(store_words), fresh();
+    CHECK(accepted(mcos_build_string_filewrapper_metadata(0, store_blob, sizeof store_blob, &a, &place)));
+    counts = (mcos_counts){0, 0, 0};
+    REFUSED(append(span, 2, 12), 33, 0);
+    REFUSED(replace(1, span, 2, 12), 33, 0);
+}
+
 int main(void)
 {
     text_calls();
@@ -356,6 +417,7 @@ int main(void)
     listing_calls();
     string_calls();
     edit_calls();
+    empty_blob_calls();
     printf("%d checks, %d failed\n", checks, failed);
     return failed != 0;
 }

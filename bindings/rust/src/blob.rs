@@ -30,7 +30,8 @@ pub struct FileWrapper {
 }
 
 impl FileWrapper {
-    /// Opens a blob.
+    /// Opens a blob. One of 0 bytes stands for a file without string objects:
+    /// all its counts and offsets are 0.
     ///
     /// # Errors
     ///

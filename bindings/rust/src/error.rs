@@ -17,7 +17,7 @@ macro_rules! kinds {
         /// let error = FileWrapper::parse(&[0; 39]).unwrap_err();
         /// assert_eq!(error, MatError::BlobTooShort(39));
         /// assert_eq!((error.number(), error.place()), (2, 39));
-        /// assert_eq!(error.to_string(), "the blob has fewer than 40 bytes (check 2, place 39)");
+        /// assert_eq!(error.to_string(), "the blob has 1 to 39 bytes (check 2, place 39)");
         /// ```
         #[derive(Debug, Clone, Copy, PartialEq, Eq, Hash)]
         pub enum MatError {
@@ -60,8 +60,9 @@ macro_rules! kinds {
 kinds! {
     /// The blob has more than 16,777,216 bytes. Place: its length.
     1 BlobTooLong: "the blob has more than 16777216 bytes",
-    /// The blob has fewer than 40 bytes. Place: its length.
-    2 BlobTooShort: "the blob has fewer than 40 bytes",
+    /// The blob has 1 to 39 bytes: more than none, too few for a header. Place:
+    /// its length.
+    2 BlobTooShort: "the blob has 1 to 39 bytes",
     /// A region offset is past the blob. Place: its index, 0 to 7.
     3 OffsetOutOfBounds: "a region offset is past the blob",
     /// Offset 0 lies in the header. Place: 0.

@@ -152,7 +152,7 @@ fn a_blob_that_does_not_open() {
     };
     for (blob, error) in [
         (vec![0; 16_777_217], MatError::BlobTooLong(16_777_217)),
-        (vec![], MatError::BlobTooShort(0)),
+        (vec![0], MatError::BlobTooShort(1)),
         (vec![0; 39], MatError::BlobTooShort(39)),
         (patched(36, 241), MatError::OffsetOutOfBounds(7)),
         (patched(8, 39), MatError::NameHeapTooEarly(0)),
