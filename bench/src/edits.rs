@@ -292,6 +292,7 @@ pub fn tampered(judge: &mut Judge, mut lent: Lent, edit: &Edit) {
     };
     let case = Case {
         kind: match edit {
+            _ if counts.blob_bytes == 0 => Kind::Empty,
             Edit::Append(_) => Kind::TamperedAppend,
             Edit::Replace(..) => Kind::TamperedReplace,
         },

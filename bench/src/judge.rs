@@ -13,7 +13,8 @@ pub enum Rust<'a> {
     /// The values, and what it writes.
     Accepts(Values, Written<'a>),
     Refuses(&'a Refusal),
-    /// It has no form for this input; the refusal is computed by 01's rule.
+    /// It has no form for this input; the refusal is computed by the rule of 01
+    /// or 02.
     Lacks(MatError),
 }
 

@@ -6,6 +6,8 @@ use std::panic::{AssertUnwindSafe, catch_unwind};
 use mcos::{MatError, ObjectRow, Property};
 use oracle::{Answer, Cell, Refusal};
 
+use crate::empty;
+use crate::generate::blobs;
 use crate::generate::stores::Store;
 use crate::judge::{Case, Judge, Rust};
 use crate::labels;
@@ -243,6 +245,9 @@ pub fn payload(judge: &mut Judge, payload: &[u64]) {
 
 /// Opening a blob, and every query on it.
 pub fn blob(judge: &mut Judge, blob: &[u8]) {
+    if blob.is_empty() {
+        return empty::blob(judge, ids(0));
+    }
     let opened = asked(|| oracle::open(blob));
     open(judge, blob, &opened);
     listing(judge, blob, &opened);
@@ -282,7 +287,7 @@ fn ids(count: usize) -> impl Iterator<Item = u32> {
 }
 
 /// A call of the library over lent buffers.
-type Call<'a> = &'a mut dyn FnMut(Room<'_>) -> Reply;
+pub(crate) type Call<'a> = &'a mut dyn FnMut(Room<'_>) -> Reply;
 
 /// A query on a blob.
 fn query(judge: &mut Judge, kind: Kind, blob: &[u8], id: u32, rust: Rust<'_>, call: Call<'_>) {
@@ -463,9 +468,17 @@ fn find(
 }
 
 /// Both roads on a store: the first with each list, the second with each id.
+/// Where the blob has 0 bytes, which the Rust does not open, it opens one with
+/// nothing in it: the first road asks nothing of the blob's objects.
 pub fn roads(judge: &mut Judge, store: &Store, lists: &[&[u32]], ids: impl Iterator<Item = u32>) {
     let cells = cut_cells(store);
-    let opened = asked(|| oracle::Store::open(&store.blob, cells.as_deref().unwrap_or_default()));
+    let nothing = blobs::header(0, &[40; 8], &[]);
+    let blob = if store.blob.is_empty() {
+        &nothing
+    } else {
+        &store.blob
+    };
+    let opened = asked(|| oracle::Store::open(blob, cells.as_deref().unwrap_or_default()));
     for list in lists {
         first_road(judge, store, &opened, cells.as_deref().err(), list);
     }
@@ -483,7 +496,7 @@ fn first_road(
 ) {
     let show = || format!("{}, list {}", show_store(store), hex_words(list));
     let case = Case {
-        kind: Kind::FirstRoad,
+        kind: road_kind(store, Kind::FirstRoad),
         limits: &[Limit::blob(store.blob.len()), Limit::list(list.len())],
         size: store_size(store) + list.len(),
         show: &show,
@@ -506,11 +519,18 @@ fn second_road(
     id: u32,
 ) {
     let case = Case {
-        kind: Kind::SecondRoad,
+        kind: road_kind(store, Kind::SecondRoad),
         limits: &[Limit::blob(store.blob.len())],
         size: store_size(store),
         show: &|| format!("{}, object {id}", show_store(store)),
     };
+    if store.blob.is_empty() {
+        let error = bad.copied().unwrap_or(empty::no_object(id));
+        judge.hold(&case, Rust::Lacks(error), |room| {
+            library::decode_string_object(&store.blob, store.cells(), id, room)
+        });
+        return;
+    }
     road(
         judge,
         &case,
@@ -519,6 +539,14 @@ fn second_road(
         |opened| opened.second_road(id),
         &mut |room| library::decode_string_object(&store.blob, store.cells(), id, room),
     );
+}
+
+fn road_kind(store: &Store, kind: Kind) -> Kind {
+    if store.blob.is_empty() {
+        Kind::Empty
+    } else {
+        kind
+    }
 }
 
 /// A road: opening, then the directory by its own rule, then the Rust's answer.

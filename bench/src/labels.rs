@@ -16,7 +16,7 @@ const HEAP: usize = 40;
 
 /// What stands for an empty name. Nothing is asked of it: it may be empty, and
 /// no text.
-static PLACEHOLDERS: [&[u8]; 4] = [b"", b"?", b"(unnamed)", b"\0\xFFn\xE2\x82"];
+pub(crate) static PLACEHOLDERS: [&[u8]; 4] = [b"", b"?", b"(unnamed)", b"\0\xFFn\xE2\x82"];
 
 /// A label: its buffer, its first byte there, and the part itself.
 #[derive(Debug, PartialEq, Eq)]
@@ -58,7 +58,7 @@ pub fn label<'a>(blob: &'a [u8], placeholder: &'a [u8], index: u32) -> Result<La
 }
 
 /// The labels of a blob: of all declared names, of index 0, of two past them,
-/// and of the last index of all.
+/// and of the last index of all. The blob has bytes.
 pub fn of_blob(judge: &mut Judge, blob: &[u8], opened: &Answer<oracle::Store>) {
     // A blob that does not open is refused for every index.
     let past = opened.as_ref().map_or(1, |store| store.counts()[0] + 2);

@@ -3,6 +3,7 @@
 
 pub mod edited;
 pub mod edits;
+pub mod empty;
 pub mod generate;
 pub mod judge;
 pub mod kinds;

@@ -180,6 +180,9 @@ pub fn lacking(expected: MatError, error: MatError) -> Option<Rule> {
         MatError::InvalidText(_) => "the Rust takes strings",
         MatError::PropertyBlockIdOutOfRange(_) => "the Rust has no object listing",
         MatError::NameIllFormed(_) => "the Rust repairs names and has no labels",
+        MatError::ObjectIdOutOfRange(_)
+        | MatError::ClassIdOutOfRange(_)
+        | MatError::NameIndexOutOfRange(_) => "the Rust opens no blob of 0 bytes",
         _ => return None,
     };
     let number = error.number();
@@ -223,7 +226,7 @@ mod tests {
         assert!(lacking(expected, expected).is_some_and(|rule| rule.number == 35));
         assert!(lacking(expected, MatError::NameIllFormed(4)).is_none());
         assert!(lacking(expected, MatError::NameIndexOutOfRange(3)).is_none());
-        let told = MatError::NameIndexOutOfRange(3);
+        let told = MatError::UnknownFieldType(3);
         assert!(lacking(told, told).is_none());
     }
 

@@ -3,6 +3,7 @@
 mod edits;
 mod labels;
 
+use crate::empty;
 use crate::generate::{arrays, blobs, every, lists, payloads, stores, text};
 use crate::judge::{Fault, Judge};
 use crate::kinds;
@@ -19,6 +20,7 @@ pub fn exhaustive(judge: &mut Judge, share: Share) {
     lossy_bytes(judge, share);
     headers(judge, share);
     damaged_bytes(judge, share);
+    shorter_than_a_header(judge, share);
     word_lists(judge, share);
     short_payloads(judge, share);
     short_lists_of_a_store(judge, share);
@@ -94,6 +96,18 @@ fn damaged_bytes(judge: &mut Judge, share: Share) {
     }
 }
 
+/// A blob of 0 bytes, with all queries by small numbers and by some large ones;
+/// blobs of 1 to 39 bytes, all alike.
+fn shorter_than_a_header(judge: &mut Judge, share: Share) {
+    empty::blob(judge, shared(0..=0xFFFF, share));
+    empty::blob(judge, shared((0..16).map(|bit| u32::MAX >> bit), share));
+    for length in shared(1..40, share) {
+        for byte in 0..=u8::MAX {
+            kinds::blob(judge, &vec![byte; length]);
+        }
+    }
+}
+
 /// All short lists of boundary words, most of them after the magic.
 fn word_lists(judge: &mut Judge, share: Share) {
     for len in 0..=6 {
@@ -120,7 +134,8 @@ fn short_payloads(judge: &mut Judge, share: Share) {
     }
 }
 
-/// All short lists over a store with a string, an array and another kind.
+/// All short lists over a store with a string, an array and another kind, and
+/// over its cells beside a blob of 0 bytes.
 fn short_lists_of_a_store(judge: &mut Judge, share: Share) {
     let store = stores::Store {
         blob: oracle::build_metadata(3).expect("three objects"),
@@ -128,13 +143,15 @@ fn short_lists_of_a_store(judge: &mut Judge, share: Share) {
         kinds: vec![0, 0, 1],
         words: vec![1, 0, 1, 0x41, 9, 1, 1, 2, 1, 1, 0x20AC_0042],
     };
-    for len in 0..=6 {
-        every(&[0, 1, 2, 3, 4], len, share, |words| {
-            let list = [&[lists::MAGIC], words].concat();
-            kinds::roads(judge, &store, &[&list], [].into_iter());
-        });
+    for store in [store.without_blob(), store] {
+        for len in 0..=6 {
+            every(&[0, 1, 2, 3, 4], len, share, |words| {
+                let list = [&[lists::MAGIC], words].concat();
+                kinds::roads(judge, &store, &[&list], [].into_iter());
+            });
+        }
+        kinds::roads(judge, &store, &[], 0..6);
     }
-    kinds::roads(judge, &store, &[], 0..6);
 }
 
 /// All short lists of spans over a text of four bytes, in all small shapes.
@@ -159,6 +176,7 @@ fn short_arrays(judge: &mut Judge, share: Share) {
 /// The smallest inputs of the known differences and findings.
 pub fn known(judge: &mut Judge) {
     let header = |names| blobs::header(names, &[40; 8], &[]);
+    kinds::blob(judge, &[]);
     for names in [0, 1, 2, 1 << 20, (1 << 20) + 1, u32::MAX] {
         kinds::blob(judge, &header(names));
     }
@@ -184,6 +202,8 @@ pub fn known(judge: &mut Judge) {
         (header(u32::MAX), &[][..], &[][..]),
         (header(0), &[], &[0]),
         (header(0), &[1, 0, 1 << 62], &[0]),
+        (vec![], &[], &[0]),
+        (vec![], &[1, 0, 1, 0x41], &[0]),
     ] {
         let store = store(blob, words, kinds);
         kinds::roads(judge, &store, &[one, hostile], [1].into_iter());
@@ -282,6 +302,7 @@ pub fn round(judge: &mut Judge, rng: &mut Rng) {
     blobs::damage(rng, &mut blob);
     blobs::damage(rng, &mut blob);
     kinds::blob(judge, &blob);
+    empty::blob(judge, [rng.bits() as u32].into_iter());
     labels::round(judge, rng);
     for _ in 0..3 {
         let mut payload = payloads::payload(rng);
@@ -311,6 +332,7 @@ pub fn round(judge: &mut Judge, rng: &mut Rng) {
             &damaged,
         ];
         kinds::roads(judge, &store, &lists, 0..5);
+        kinds::roads(judge, &store.without_blob(), &lists, 0..5);
     }
     kinds::object_metadata(judge, rng.bits() as u32);
     if rng.once_in(64) {

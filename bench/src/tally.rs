@@ -29,6 +29,8 @@ pub enum Kind {
     Write,
     Build,
     ObjectMetadata,
+    /// Any call on a blob of 0 bytes, or on a store with such a blob.
+    Empty,
     Append,
     Replace,
     ReadBack,
@@ -64,6 +66,7 @@ impl fmt::Display for Kind {
             Self::Write => "encode_string_saveobj_payload",
             Self::Build => "build_string_filewrapper_metadata",
             Self::ObjectMetadata => "create_string_object_metadata",
+            Self::Empty => "a blob of 0 bytes",
             Self::Append => "edits: append",
             Self::Replace => "edits: replace",
             Self::ReadBack => "edits: reading back",

@@ -15,6 +15,11 @@ fn every_fault_is_reported() {
         assert!(edits || fault == Fault::Part, "{fault:?} in no edit");
         let labels = put(Kind::Label);
         assert!(labels || fault == Fault::GivenUp, "{fault:?} in no label");
+        let empty = put(Kind::Empty);
+        assert!(
+            empty || fault == Fault::GivenUp,
+            "{fault:?} in no empty blob"
+        );
         let mut faults = 0;
         for (kind, count) in tally.counts {
             assert_eq!(
@@ -42,11 +47,12 @@ fn no_fault_is_no_report() {
         let mut rules = counts.flat_map(|count| count.explained.keys());
         rules.any(|rule| rule.number == number)
     };
-    for number in [6, 13, 16, 21, 28, 30, 35] {
+    for number in [6, 8, 9, 11, 13, 16, 21, 28, 30, 35] {
         assert!(explained(number), "{number} is not seen");
     }
     for (kind, numbers) in [
         (Kind::Label, &[2, 3, 5, 6, 11][..]),
+        (Kind::Empty, &[13, 14, 33]),
         (Kind::Append, &[30, 31, 34]),
         (Kind::Replace, &[8, 30, 31, 34]),
         (Kind::TamperedAppend, &[13, 33]),

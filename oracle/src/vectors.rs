@@ -68,6 +68,12 @@ fn call_rust(name: &str, args: &[&str]) -> Option<Reply> {
                 .and_then(|store| store.class(id))
                 .map(|text| hex(text.as_bytes()))
         }
+        "classid" => {
+            let id = number(arg(1)?)?;
+            crate::open(&bytes(arg(0)?)?)
+                .and_then(|store| store.class_name(id))
+                .map(|text| hex(text.as_bytes()))
+        }
         "props" => {
             let id = number(arg(1)?)?;
             crate::open(&bytes(arg(0)?)?)

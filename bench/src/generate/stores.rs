@@ -21,6 +21,14 @@ impl Store {
             words: &self.words,
         }
     }
+
+    /// The same cells beside a blob of 0 bytes.
+    pub fn without_blob(&self) -> Self {
+        Self {
+            blob: Vec::new(),
+            ..self.clone()
+        }
+    }
 }
 
 /// A store of up to four cells; a blob, payload, kind or pair may be damaged.

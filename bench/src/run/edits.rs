@@ -163,6 +163,9 @@ pub(super) fn round(judge: &mut Judge, rng: &mut Rng) {
             generate::edits::tamper(rng, &mut spoilt);
         }
         let edit = generate::edits::edit(rng, store.counts.objects as usize);
+        let mut without_blob = spoilt.clone();
+        without_blob.counts.blob_bytes = 0;
         edits::tampered(judge, spoilt, &edit);
+        edits::tampered(judge, without_blob, &edit);
     }
 }

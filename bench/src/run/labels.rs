@@ -85,7 +85,11 @@ pub(super) fn round(judge: &mut Judge, rng: &mut Rng) {
     labels_of(judge, &blob);
 }
 
+/// The labels of a blob, if it has bytes.
 fn labels_of(judge: &mut Judge, blob: &[u8]) {
+    if blob.is_empty() {
+        return;
+    }
     let opened = asked(|| oracle::open(blob));
     labels::of_blob(judge, blob, &opened);
 }
