@@ -188,8 +188,8 @@ module _ (b placeholder : List ℕ) (i : ℕ) {p : Part} (e : labelOf b placehol
       let same : a .wrapper ≡ c .wrapper = same-value (sym (a .opened-is) ∙ c .opened-is) in
       let t = stored a s in
       let u : Stored b (a .wrapper) j p = subst (λ (w : FileWrapper). Stored b w j p) (sym same) (stored c s) in
-      let few : i ≤ length (pieces (heapOf b (a .wrapper .offsets .o0))) = named-piece (named-in a) (t .least) in
       let ps : List (List ℕ) = pieces (heapOf b (a .wrapper .offsets .o0)) in
+      let few : i ≤ length ps = named-piece (named-in a) (t .least) in
       let z : nameStart b (a .wrapper .offsets .o0) i ≡ nameStart b (a .wrapper .offsets .o0) j = sym (t .begins) ∙ u .begins in
       let m : j ≤ length ps = subst (λ (w : FileWrapper). j ≤ length (pieces (heapOf b (w .offsets .o0)))) (sym same) (named-piece (named-in c) (stored c s .least)) in
       either (ltb i j)

@@ -1,6 +1,6 @@
 -- A store whose counted blob has no bytes, however long its buffer is (document 02, P2): no edit of it is accepted.
 -- Assumes nothing.
-use mathlib.Core.Path.{_≡_, ap, _∙_}
+use mathlib.Core.Path.{_≡_, ap}
 use mathlib.Core.Bool.{false}
 use mathlib.Core.List.{List, []}
 use native.Mathlib.Omega.{arith}
