@@ -32,7 +32,7 @@ empty-opens = refl
 
 -- "The 39-byte case stands."
 pub short-refused : (b : List ℕ) → 1 ≤ length b → length b < 40 → opened b ≡ error (record { number = 2; place = length b })
-short-refused b h l = sym (no-2 b (omega arith) (λ z. omega arith) l)
+short-refused b h l = sym (no-2 b l (λ z. omega arith))
 
 -- ---- names, classes and objects
 

@@ -59,68 +59,67 @@ module _ (b : List ℕ) where
   unfolding opened
   no-1 h = simp lt-leb
 
-  module _ (h1 : length b ≤ 16777216) where
+  module _ (short : length b < 40) where
     pub opens-empty : length b ≡ 0 → {w : FileWrapper} → w ≡ emptyWrapper → parseReplyOf (parse.Parsed w) ≡ opened b
     unfolding opened
-    opens-empty z e = simp (le-leb (length b) 16777216 h1, eq-eqb (length b) 0 z) (ap ok e)
+    opens-empty z e = simp (le-leb (length b) 16777216 (omega arith), eq-eqb (length b) 0 z) (ap ok e)
 
-    pub no-2 : (length b ≡ 0 → ⊥) → length b < 40 → parseReplyOf (parse.Error (BlobTooShort (length b))) ≡ opened b
+    pub no-2 : (length b ≡ 0 → ⊥) → parseReplyOf (parse.Error (BlobTooShort (length b))) ≡ opened b
     unfolding opened
-    no-2 some h = simp (le-leb (length b) 16777216 h1, ne-eqb (length b) 0 some, lt-leb 40 (length b) h)
-
-    pub to-layout : 40 ≤ length b → {m : Result FileWrapper} → m ≡ layout b → m ≡ opened b
-    unfolding opened
-    to-layout h e = e ∙ sym (simp (le-leb (length b) 16777216 h1, ne-eqb (length b) 0 (λ z. omega arith), le-leb 40 (length b) h))
-
-pub ruleset opening = (no-1, opens-empty, no-2, to-layout)
+    no-2 some = simp (le-leb (length b) 16777216 (omega arith), ne-eqb (length b) 0 some, lt-leb 40 (length b) short)
 
 -- ---- 3 to 5
 
-module _ (b : List ℕ) {x : Checked} (e3 : checkedOf x ≡ checkEach 3 (isWithin b) 0 8) where
-  pub no-3 : {e : MatError} → x ≡ checked.Failed e → parseReplyOf (parse.Error e) ≡ layout b
-  unfolding layout
-  no-3 g = simp (reply-is checkedOf e3 g)
+module _ (b : List ℕ) (h1 : length b ≤ 16777216) (h2 : 40 ≤ length b) where
+  by-layout : {m : Result FileWrapper} → m ≡ layout b → m ≡ opened b
+  unfolding opened
+  by-layout e = e ∙ sym (simp (le-leb (length b) 16777216 h1, ne-eqb (length b) 0 (λ z. omega arith), le-leb 40 (length b) h2))
 
-  module _ (g3 : x ≡ checked.Passed) {o : Offsets} (eo : o ≡ offsets b) where
-    first : {n : ℕ} → o .o0 ≡ n → offset b 0 ≡ n
-    first w = ap (λ (v : Offsets). v .o0) (sym eo) ∙ w
-
-    pub no-4 : o .o0 < 40 → parseReplyOf (parse.Error (NameHeapTooEarly 0)) ≡ layout b
+  module _ {x : Checked} (e3 : checkedOf x ≡ checkEach 3 (isWithin b) 0 8) where
+    pub no-3 : {e : MatError} → x ≡ checked.Failed e → parseReplyOf (parse.Error e) ≡ opened b
     unfolding layout
-    no-4 h4 = simp (reply-is checkedOf e3 g3, lt-leb 40 (offset b 0) (rw (← first refl) at h4))
+    no-3 g = by-layout (simp (reply-is checkedOf e3 g))
 
-    start : 40 ≤ o .o0 → 40 ≤ offset b 0
-    start h4 = rw (← first refl) at h4
+    module _ (g3 : x ≡ checked.Passed) {o : Offsets} (eo : o ≡ offsets b) where
+      first : {n : ℕ} → o .o0 ≡ n → offset b 0 ≡ n
+      first w = ap (λ (v : Offsets). v .o0) (sym eo) ∙ w
 
-    module _ (h4 : 40 ≤ o .o0) {y : Checked} (e5 : checkedOf y ≡ checkEach 5 (isOrdered b) 1 8) where
-      pub no-5 : {e : MatError} → y ≡ checked.Failed e → parseReplyOf (parse.Error e) ≡ layout b
+      pub no-4 : o .o0 < 40 → parseReplyOf (parse.Error (NameHeapTooEarly 0)) ≡ opened b
       unfolding layout
-      no-5 g = simp (reply-is checkedOf e3 g3, le-leb 40 (offset b 0) (start h4), reply-is checkedOf e5 g)
+      no-4 h4 = by-layout (simp (reply-is checkedOf e3 g3, lt-leb 40 (offset b 0) (rw (← first refl) at h4)))
 
-      module _ (g5 : y ≡ checked.Passed) where
-        up : (k : ℕ) → 1 ≤ k → k < 8 → offset b (k - 1) ≤ offset b k
-        up k h m = leb-true (offset b (k - 1)) (offset b k) (checkEach-passed 5 (isOrdered b) 1 8 (reply-is checkedOf e5 g5) k h m)
+      start : 40 ≤ o .o0 → 40 ≤ offset b 0
+      start h4 = rw (← first refl) at h4
 
-        pub ordered : 40 ≤ length b → length b ≤ 16777216 → Ordered b o
-        ordered h2 h1 =
-            rw eo
-            (record {
-              is = refl;
-              least = h2;
-              most = h1;
-              heap = start h4;
-              classes = up 1 (omega arith) (omega arith);
-              saveobj = up 2 (omega arith) (omega arith);
-              records = up 3 (omega arith) (omega arith);
-              normalobj = up 4 (omega arith) (omega arith);
-              inside = leb-true (offset b 4) (length b) (checkEach-passed 3 (isWithin b) 0 8 (reply-is checkedOf e3 g3) 4 (omega arith) (omega arith));
-            })
-
-        pub to-regions : {m : Result FileWrapper} → m ≡ regions b → m ≡ layout b
+      module _ (h4 : 40 ≤ o .o0) {y : Checked} (e5 : checkedOf y ≡ checkEach 5 (isOrdered b) 1 8) where
+        pub no-5 : {e : MatError} → y ≡ checked.Failed e → parseReplyOf (parse.Error e) ≡ opened b
         unfolding layout
-        to-regions w = w ∙ sym (simp (reply-is checkedOf e3 g3, le-leb 40 (offset b 0) (start h4), reply-is checkedOf e5 g5))
+        no-5 g = by-layout (simp (reply-is checkedOf e3 g3, le-leb 40 (offset b 0) (start h4), reply-is checkedOf e5 g))
 
-pub ruleset ordering = (no-3, no-4, no-5, ordered, to-regions)
+        module _ (g5 : y ≡ checked.Passed) where
+          up : (k : ℕ) → 1 ≤ k → k < 8 → offset b (k - 1) ≤ offset b k
+          up k h m = leb-true (offset b (k - 1)) (offset b k) (checkEach-passed 5 (isOrdered b) 1 8 (reply-is checkedOf e5 g5) k h m)
+
+          pub ordered : Ordered b o
+          ordered =
+              rw eo
+              (record {
+                is = refl;
+                least = h2;
+                most = h1;
+                heap = start h4;
+                classes = up 1 (omega arith) (omega arith);
+                saveobj = up 2 (omega arith) (omega arith);
+                records = up 3 (omega arith) (omega arith);
+                normalobj = up 4 (omega arith) (omega arith);
+                inside = leb-true (offset b 4) (length b) (checkEach-passed 3 (isWithin b) 0 8 (reply-is checkedOf e3 g3) 4 (omega arith) (omega arith));
+              })
+
+          pub to-regions : {m : Result FileWrapper} → m ≡ regions b → m ≡ opened b
+          unfolding layout
+          to-regions w = by-layout (w ∙ sym (simp (reply-is checkedOf e3 g3, le-leb 40 (offset b 0) (start h4), reply-is checkedOf e5 g5)))
+
+pub ruleset opening = (no-1, opens-empty, no-2, no-3, no-4, no-5, to-regions)
 
 -- ---- 6 and 7
 

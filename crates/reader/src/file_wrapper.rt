@@ -11,7 +11,7 @@ ghost use mathlib.Core.Path.{_≡_};
 ghost use Prim.Native.Nat.{_≤_, _<_};
 ghost use lib.ListN.{length};
 ghost use Rattle.text.specs.Result.{checkEach};
-ghost use Rattle.reader.specs.Opening.{offset, offsets, isWithin, isOrdered, Ordered, regions, layout, emptyWrapper, opened};
+ghost use Rattle.reader.specs.Opening.{offset, offsets, isWithin, isOrdered, Ordered, regions, emptyWrapper, opened};
 ghost use Rattle.reader.specs.Replies.{parseReplyOf, checkedOf};
 
 // The most bytes of a blob, and the length of its header.
@@ -129,40 +129,40 @@ fn empty_wrapper() -> FileWrapper
     }
 }
 
+// A blob that is too short for a header: an empty one opens with no names, classes or objects, any other fails check 2.
+fn parse_short(blob: &[u8]) -> ParseReply
+    requires { ⌜ length (now blob) < 40 ⌝ }
+    ensures { λ r. ⌜ parseReplyOf r ≡ opened (now (blob .entry)) ⌝ }
+{
+    if blob.len() == 0 {
+        return ParseReply::Parsed(empty_wrapper());
+    }
+    ParseReply::Error(MatError::BlobTooShort(blob.len() as u64))
+}
+
 impl FileWrapper {
-    // Opens a blob: checks 1 to 7. An empty one has no names, classes or objects.
+    // Opens a blob: checks 1 to 7.
     pub fn parse(blob: &[u8]) -> ParseReply
         ensures { λ r. ⌜ parseReplyOf r ≡ opened (now (blob .entry)) ⌝ }
     {
         if MAX_BLOB < blob.len() {
             return ParseReply::Error(MatError::BlobTooLong(blob.len() as u64));
         }
-        if blob.len() == 0 {
-            return ParseReply::Parsed(empty_wrapper());
-        }
         if blob.len() < HEADER {
-            return ParseReply::Error(MatError::BlobTooShort(blob.len() as u64));
+            return parse_short(blob);
         }
-        parse_layout(blob)
+        if let Checked::Failed(e) = check_within(blob) {
+            return ParseReply::Error(e);
+        }
+        let o = read_offsets(blob);
+        if o.o0 < HEADER {
+            return ParseReply::Error(MatError::NameHeapTooEarly(0));
+        }
+        if let Checked::Failed(e) = check_order(blob) {
+            return ParseReply::Error(e);
+        }
+        parse_regions(blob, o)
     }
-}
-
-// Checks 3 to 7, of a blob that has a header.
-fn parse_layout(blob: &[u8]) -> ParseReply
-    requires { ⌜ (40 ≤ length (now blob)) × (length (now blob) ≤ 16777216) ⌝ }
-    ensures { λ r. ⌜ parseReplyOf r ≡ layout (now (blob .entry)) ⌝ }
-{
-    if let Checked::Failed(e) = check_within(blob) {
-        return ParseReply::Error(e);
-    }
-    let o = read_offsets(blob);
-    if o.o0 < HEADER {
-        return ParseReply::Error(MatError::NameHeapTooEarly(0));
-    }
-    if let Checked::Failed(e) = check_order(blob) {
-        return ParseReply::Error(e);
-    }
-    parse_regions(blob, o)
 }
 
 // Checks 6 and 7, once the offsets are right.
