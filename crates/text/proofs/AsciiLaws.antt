@@ -14,7 +14,7 @@ use Rattle.text.specs.declared.utf8.UnitCount.the-variants as count
 use Rattle.text.proofs.ScalarLaws.{Scalars, gap-below, utf8-1, utf16-1, utf8s-nil, utf8s-cons, utf16s-nil, utf16s-cons, below-append}
 use Rattle.text.proofs.Utf8Laws.{parts-utf8s, scalars8-utf8s}
 
-below-more : (a b : ℕ) (xs : List ℕ) → a ≤ b → Below a xs → Below b xs
+pub below-more : (a b : ℕ) (xs : List ℕ) → a ≤ b → Below a xs → Below b xs
 below-more a b [] h p = tt
 below-more a b (x ∷ xs) h p = (omega (arith, p .0), below-more a b xs h (p .1))
 

@@ -1,6 +1,6 @@
 -- The loop of `count_units`.
 -- Assumes nothing.
-use mathlib.Core.Path.{_≡_, refl, _∙_, sym, ap}
+use mathlib.Core.Path.{_≡_, refl, _∙_, sym, ap, ap₂}
 use mathlib.Core.Bool.{true}
 use mathlib.Core.List.{List, _∷_, flatMap}
 use mathlib.Core.Option.{Option, some, none, Option·map}
@@ -39,13 +39,26 @@ unfolding flatMap
 one-more n v (some vs) = ap some (omega (arith, length-append (utf16 v) (utf16s vs)))
 one-more n v none = refl
 
-broken-here : (t : List ℕ) (i : ℕ) → i < length t → wholeLength t i ≡ 0 → stepAt t i ≡ IllFormed (nextAt t i)
+pub broken-here : (t : List ℕ) (i : ℕ) → i < length t → wholeLength t i ≡ 0 → stepAt t i ≡ IllFormed (nextAt t i)
 unfolding stepAt wholeLength wholeAt
 broken-here t i h z =
     let n : ℕ = sequenceLength (getD t i 0) in
     either (wholeAt t i)
     (λ w. let p = and-is (ltb 0 n) (eqb (matched t i) n) w in
     absurd (omega (arith, ltb-true 0 n (p .0), eqb-true (matched t i) n (p .1), rw w at z))) (λ w. simp (lt-ltb i (length t) h, w))
+
+-- a whole sequence stands at i
+module _ (t : List ℕ) (i : ℕ) {r : ℕ} (h : i < length t) (e : r ≡ wholeLength t i) (z : r ≡ 0 → ⊥) where
+  pub whole-is : (wholeAt t i ≡ true) × (matched t i ≡ r)
+  unfolding wholeLength
+  whole-is = either (wholeAt t i) (λ w. (w, sym (rw w at e))) (λ w. absurd (z (rw w at e)))
+
+  pub scalar-here : stepAt t i ≡ Scalar (valueAt t i r) (i + r)
+  unfolding stepAt nextAt
+  scalar-here =
+      let w = whole-is in
+      let n : i + max 1 (matched t i) ≡ i + r = omega (arith, w .1) in
+      simp (lt-ltb i (length t) h, w .0) (ap₂ (λ (m k : ℕ). Scalar (valueAt t i m) k) (w .1) n)
 
 module _ (t : List ℕ) where
   pub count-start : Counting t 0 0
@@ -71,19 +84,8 @@ module _ (t : List ℕ) where
     count-ascii h b = count-scalar 1 (sym (ascii t i h b)) (omega arith)
 
     module _ {r : ℕ} (h : i < length t) (e : r ≡ wholeLength t i) where
-      whole-is : (r ≡ 0 → ⊥) → (wholeAt t i ≡ true) × (matched t i ≡ r)
-      unfolding wholeLength
-      whole-is z = either (wholeAt t i) (λ w. (w, sym (rw w at e))) (λ w. absurd (z (rw w at e)))
-
-      scalar-here : (r ≡ 0 → ⊥) → stepAt t i ≡ Scalar (valueAt t i (matched t i)) (i + r)
-      unfolding stepAt nextAt
-      scalar-here z =
-          let w = whole-is z in
-          let n : i + max 1 (matched t i) ≡ i + r = omega (arith, w .1) in
-          simp (lt-ltb i (length t) h, w .0) (ap (λ (k : ℕ). Scalar (valueAt t i (matched t i)) k) n)
-
       pub count-whole : (r ≡ 0 → ⊥) → {u : ℕ} → u ≡ 1 + r / 4 → Counting t (n + u) (i + r)
-      count-whole z {u} k = count-scalar u (scalar-here z) (let q : i + r - i ≡ r = omega arith in rw q k)
+      count-whole z {u} k = count-scalar u (scalar-here t i h e z) (let q : i + r - i ≡ r = omega arith in rw q k)
 
       pub count-stop : r ≡ 0 → CountsUnits t (count.IllFormed i)
       unfolding scalarsOf firstIllFormed

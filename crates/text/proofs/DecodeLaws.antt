@@ -13,18 +13,18 @@ use lib.Dec.{ltb}
 use lib.ListN.{length, getD, drop, length-append, drop-of-length-le}
 use lib.Seq.{drop-cons}
 use Rattle.text.specs.Buffer.{put}
-use Rattle.text.specs.Replies.{lengthOf, textReplyOf, DecodesUtf16}
-use Rattle.text.specs.Result.{Result, ok, error, mapResult, needPlace, overwritten}
+use Rattle.text.specs.Replies.{lengthOf, DecodesUtf16}
+use Rattle.text.specs.Result.{ok, error, needPlace}
 use Rattle.text.specs.Unicode.{isHighSurrogate, isLowSurrogate, isSurrogate, utf8, utf8s, encoded}
 use Rattle.text.specs.Utf16.{pairValue, unitStep, unitStepAt, scalars16, textOf, theText, TextFits, decodeUtf16}
 use Rattle.text.specs.declared.error.MatError.the-variants.{OutputTooShort, UnpairedSurrogate}
 use Rattle.text.specs.declared.utf16.TextLength.{TextLength}
 use Rattle.text.specs.declared.utf16.TextLength.the-variants as textLength
-use Rattle.text.specs.declared.utf16.TextReply.{TextReply}
 use Rattle.text.specs.declared.utf16.TextReply.the-variants as textReply
 use Rattle.text.specs.declared.utf16.UnitStep.{UnitStep}
 use Rattle.text.specs.declared.utf16.UnitStep.the-variants.{Scalar, Unpaired}
 use Rattle.text.proofs.BufferLaws.{SoFar, Splits, begins, fits-next, goes-on, ends, put-front}
+use Rattle.text.proofs.ReplyLaws.{writes}
 use Rattle.text.proofs.ScalarLaws.{IsScalar, is-scalar, encoded-is, gap-below, gap-above, lengths, utf16-1, utf16-2, utf8s-nil, utf8s-cons}
 use Rattle.text.proofs.TestLaws.{within-yes, within-under, within-over, within-is}
 use Rattle.text.proofs.Utf8Laws.{map-is, not-some}
@@ -276,18 +276,11 @@ measured us textLength.Unpaired none e f = e
 measured us textLength.Unpaired (some t) e f = not-some f
 
 module _ (us text : List ℕ) where
-  decodes : (m : Result (List ℕ)) {r : TextReply} {text' : List ℕ} → decodeUtf16 us (length text) ≡ m → textReplyOf r ≡ mapResult length m
-      → text' ≡ overwritten (λ t. t) m text → DecodesUtf16 us text r text'
-  decodes m e p q = record {
-    reply = p ∙ ap (mapResult length) (sym e);
-    buffer = q ∙ ap (λ (n : Result (List ℕ)). overwritten (λ t. t) n text) (sym e);
-  }
-
   too-short : (need : ℕ) → textOf us ≡ some (theText us) → length text < length (theText us) → need ≡ needPlace (length (theText us))
       → DecodesUtf16 us text (textReply.Error (OutputTooShort need)) text
   unfolding decodeUtf16
   too-short need t h p =
-      decodes (error (record { number = 34; place = need }))
+      writes (decodeUtf16 us) text (error (record { number = 34; place = need }))
       (rw t (simp (lt-leb (length (theText us)) (length text) h, sym p))) refl refl
 
   module _ {x : TextLength} (e : lengthOf x ≡ Option·map length (textOf us)) where
@@ -307,9 +300,9 @@ module _ (us text : List ℕ) where
       unfolding decodeUtf16
       decode-written h {text'} b =
           let s = said g in
-          decodes (ok (theText us)) (rw (s .0) (simp (le-leb (length (theText us)) (length text) (omega arith)))) (ap ok (sym (s .1)))
+          writes (decodeUtf16 us) text (ok (theText us)) (rw (s .0) (simp (le-leb (length (theText us)) (length text) (omega arith)))) (ap ok (sym (s .1)))
           (b ∙ put-front text (theText us))
 
     pub decode-unpaired : x ≡ textLength.Unpaired → DecodesUtf16 us text (textReply.Error (UnpairedSurrogate 0)) text
     unfolding decodeUtf16
-    decode-unpaired g = decodes (error (record { number = 29; place = 0 })) (rw (said g)) refl refl
+    decode-unpaired g = writes (decodeUtf16 us) text (error (record { number = 29; place = 0 })) (rw (said g)) refl refl

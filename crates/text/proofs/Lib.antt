@@ -4,11 +4,15 @@ pub mod ByteLaws
 pub mod CountLaws
 pub mod DecodeLaws
 pub mod SizeLaws
+pub mod ExportLaws
+pub mod ImportLaws
+pub mod Latin9Laws
 pub mod LeadLaws
 pub mod LossyLaws
 pub mod MaximalSubpart
 pub mod PartLaws
 pub mod ProductLaws
+pub mod ReplyLaws
 pub mod ResultLaws
 pub mod SameLaws
 pub mod ScalarLaws

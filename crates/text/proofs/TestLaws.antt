@@ -1,12 +1,14 @@
 -- Tests, the values that they choose between, and ranges.
 -- Assumes nothing.
-use mathlib.Core.Path.{_≡_, refl, sym, _∙_, subst}
+use mathlib.Core.Path.{_≡_, refl, sym, _∙_, ap, subst}
 use mathlib.Core.Bool.{Bool, true, false, cond, _&&_}
+use mathlib.Core.List.{List, [], _∷_}
 use Prim.Native.Nat.{ℕ, zero, suc, _+_, _≤_, _<_}
 use native.Mathlib.Nat.{add-zero, zero-add, add-suc, suc-add, le-of-suc-le-suc, not-suc-le-zero}
 use native.Mathlib.Omega.{arith}
 use borrow.Author.Tests.{le-leb, lt-leb, leb-true, leb-false, eqb-true, eqb-false}
-use lib.Dec.{T, leb, eqb, eqb→eq}
+use lib.Dec.{T, leb, ltb, eqb, ltb→lt, eqb→eq}
+use lib.ListN.{getD}
 use Rattle.text.specs.Unicode.{within}
 
 pub not-both {ℓ} : {P : Type ℓ} {t : Bool} → t ≡ true → t ≡ false → P
@@ -83,3 +85,20 @@ every-below f n t k h = subst (λ (m : ℕ). T (f m)) (zero-add k) (every-from f
 -- two functions to numbers agree below n
 pub agree : (f g : ℕ → ℕ) (n : ℕ) → T (every (λ k. eqb (f k) (g k)) 0 n) → (k : ℕ) → k < n → f k ≡ g k
 agree f g n t k h = eqb→eq (f k) (g k) (every-below (λ k. eqb (f k) (g k)) n t k h)
+
+-- the values of a function stay below a bound, below n
+pub under : (f : ℕ → ℕ) (bound n : ℕ) → T (every (λ k. ltb (f k) bound) 0 n) → (k : ℕ) → k < n → f k < bound
+under f bound n t k h = ltb→lt (f k) bound (every-below (λ k. ltb (f k) bound) n t k h)
+
+-- the values of f at the n numbers from i on: a table that is written out is this list by computing
+abbrev pub listed : (ℕ → ℕ) → ℕ → ℕ → List ℕ
+listed f i zero = []
+listed f i (suc n) = f i ∷ listed f (suc i) n
+
+listed-from : (f : ℕ → ℕ) (n i k : ℕ) → k < n → getD (listed f i n) k 0 ≡ f (i + k)
+listed-from f zero i k h = absurd (not-suc-le-zero h)
+listed-from f (suc n) i zero h = sym (ap f (add-zero i))
+listed-from f (suc n) i (suc k) h = listed-from f n (suc i) k (le-of-suc-le-suc h) ∙ ap f (suc-add i k ∙ sym (add-suc i k))
+
+pub listed-at : (f : ℕ → ℕ) (n k : ℕ) → k < n → getD (listed f 0 n) k 0 ≡ f k
+listed-at f n k h = listed-from f n 0 k h ∙ ap f (zero-add k)

@@ -3,7 +3,7 @@
 use Prim.Native.Nat.{ℕ}
 use Rattle.text.specs.declared.error.Failure.{Failure}
 use Rattle.text.specs.declared.error.MatError.{MatError}
-use Rattle.text.specs.declared.error.MatError.the-variants.{BlobTooLong, BlobTooShort, OffsetOutOfBounds, NameHeapTooEarly, OffsetsDescending, TooFewNames, PropertyBlockTruncated, ObjectIdOutOfRange, ClassIdOutOfRange, PropertyBlockIdOutOfRange, NameIndexOutOfRange, UnknownFieldType, InvalidDirectory, CellNotFound, UnexpectedCellKind, NotStringObject, OpaqueMetadataSize, OpaqueMetadataMagic, OpaqueMetadataDimensionsTruncated, OpaqueMetadataProductOverflow, OpaqueMetadataSizeMismatch, PayloadSize, PayloadVersion, PayloadDimensionsTruncated, PayloadProductOverflow, PayloadLengthsTruncated, PayloadLengthSumOverflow, PayloadUnitsTruncated, UnpairedSurrogate, InvalidText, ShapeMismatch, LimitExceeded, NotCanonical, OutputTooShort, NameIllFormed}
+use Rattle.text.specs.declared.error.MatError.the-variants.{BlobTooLong, BlobTooShort, OffsetOutOfBounds, NameHeapTooEarly, OffsetsDescending, TooFewNames, PropertyBlockTruncated, ObjectIdOutOfRange, ClassIdOutOfRange, PropertyBlockIdOutOfRange, NameIndexOutOfRange, UnknownFieldType, InvalidDirectory, CellNotFound, UnexpectedCellKind, NotStringObject, OpaqueMetadataSize, OpaqueMetadataMagic, OpaqueMetadataDimensionsTruncated, OpaqueMetadataProductOverflow, OpaqueMetadataSizeMismatch, PayloadSize, PayloadVersion, PayloadDimensionsTruncated, PayloadProductOverflow, PayloadLengthsTruncated, PayloadLengthSumOverflow, PayloadUnitsTruncated, UnpairedSurrogate, InvalidText, ShapeMismatch, LimitExceeded, NotCanonical, OutputTooShort, NameIllFormed, UnmappableCharacter}
 
 -- a check's number and its place
 abbrev at : ℕ → ℕ → Failure
@@ -46,3 +46,4 @@ failureOf (LimitExceeded p) = at 32 p
 failureOf (NotCanonical p) = at 33 p
 failureOf (OutputTooShort p) = at 34 p
 failureOf (NameIllFormed p) = at 35 p
+failureOf (UnmappableCharacter p) = at 36 p

@@ -1,5 +1,7 @@
 pub mod Buffer
 pub mod Errors
+pub mod Latin9
+pub mod Latin9Stages
 pub mod Replies
 pub mod Result
 pub mod Stages

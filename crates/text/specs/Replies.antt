@@ -78,7 +78,11 @@ abbrev pub textReplyOf : TextReply → Result ℕ
 textReplyOf (textReply.Text n) = ok n
 textReplyOf (textReply.Error e) = error (failureOf e)
 
+-- a call that writes a text, or a text's bytes in another encoding, to the start of an output; it comes to m of the output's length
+pub record WritesText (m : ℕ → Result (List ℕ)) (out : List ℕ) (r : TextReply) (out' : List ℕ) : Type 0 where
+  pub reply : textReplyOf r ≡ mapResult length (m (length out))
+  pub buffer : out' ≡ overwritten (λ t. t) (m (length out)) out
+
 -- a call that writes the text of code units to the start of text
-pub record DecodesUtf16 (us text : List ℕ) (r : TextReply) (text' : List ℕ) : Type 0 where
-  pub reply : textReplyOf r ≡ mapResult length (decodeUtf16 us (length text))
-  pub buffer : text' ≡ overwritten (λ t. t) (decodeUtf16 us (length text)) text
+abbrev pub DecodesUtf16 : List ℕ → List ℕ → TextReply → List ℕ → Type 0
+DecodesUtf16 us text r text' = WritesText (decodeUtf16 us) text r text'

@@ -39,6 +39,7 @@ pub enum MatError {
     NotCanonical(u64),
     OutputTooShort(u64),
     NameIllFormed(u64),
+    UnmappableCharacter(u64),
 }
 
 // The number of a check and its place, as the documents count them.
@@ -87,6 +88,7 @@ impl MatError {
             MatError::NotCanonical(place) => Failure { number: 33, place },
             MatError::OutputTooShort(place) => Failure { number: 34, place },
             MatError::NameIllFormed(place) => Failure { number: 35, place },
+            MatError::UnmappableCharacter(place) => Failure { number: 36, place },
         }
     }
 }

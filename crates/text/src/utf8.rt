@@ -6,9 +6,9 @@ ghost use lib.Dec.{leb, eqb};
 ghost use lib.ListN.{length, getD};
 ghost use Rattle.text.specs.Buffer.{same, put, Puts, Places};
 ghost use Rattle.text.specs.Replies.{validityPlace, CountsUnits, terminatedLength, terminatedOf, lossyLength, WritesLossy};
-ghost use Rattle.text.specs.Stages.{stepHas, hasSecond, wholeLength};
+ghost use Rattle.text.specs.Stages.{stepHas, hasSecond, wholeLength, isText};
 ghost use Rattle.text.specs.Unicode.{Below, isScalar, utf8, encoded};
-ghost use Rattle.text.specs.Utf8.{sequenceLength, secondRange, hasIn, stepAt, partsFrom, firstIllFormed, lossy};
+ghost use Rattle.text.specs.Utf8.{sequenceLength, secondRange, hasIn, stepAt, partsFrom, scalarsOf, firstIllFormed, lossy};
 
 // The range of a byte, both ends in it.
 struct Range {
@@ -159,7 +159,7 @@ fn has_second(s: &[u8], at: usize) -> bool
 
 // The length of the well-formed sequence at a byte that is not ASCII, 0 where there is none. The last byte is looked at first: where it is
 // there, the others are, and the end of the text is tested once.
-fn whole_length(s: &[u8], at: usize) -> usize
+pub(crate) fn whole_length(s: &[u8], at: usize) -> usize
     requires { ⌜ (at < length (now s)) × (128 ≤ getD (now s) at 0) ⌝ }
     ensures { λ r. ⌜ (r ≡ wholeLength (now (s .entry)) at) × (r ≤ 4) ⌝ }
 {
@@ -210,7 +210,7 @@ fn larger(a: u8, b: u8) -> u8
 }
 
 // The highest byte of a text. A turn only keeps the larger of two bytes, which the compiler does for many of them together.
-fn highest(text: &[u8]) -> u8
+pub(crate) fn highest(text: &[u8]) -> u8
     ensures { λ r. ⌜ Below (r + 1) (now (text .entry)) ⌝ }
 {
     let mut high: u8 = 0;
@@ -353,6 +353,25 @@ pub fn validate(text: &[u8]) -> Validity
     }
 }
 
+// Whether all from a position on is well-formed.
+pub(crate) fn is_text_from(text: &[u8], start: usize) -> bool
+    ensures { λ r. ⌜ r ≡ isText (scalarsOf (partsFrom (now (text .entry)) start)) ⌝ }
+{
+    let mut i = start;
+    while i < text.len() {
+        if text[i] < 0x80 {
+            i += 1;
+            continue;
+        }
+        let size = whole_length(text, i);
+        if size == 0 {
+            return false;
+        }
+        i += size;
+    }
+    true
+}
+
 // The length of a text that ends before its first zero byte, or with all its bytes where there is none; or that it is ill-formed.
 pub enum TerminatedLength {
     Length(usize),
@@ -490,7 +509,7 @@ fn put_repaired(s: &[u8], out: &mut [u8], at: usize) -> usize
 }
 
 // Writes s to the start of out, which is long enough for it.
-fn put_all(s: &[u8], out: &mut [u8])
+pub(crate) fn put_all(s: &[u8], out: &mut [u8])
     requires { ⌜ length (now s) ≤ length (now out) ⌝ }
     ensures { λ _. ⌜ now (out .exit) ≡ put (now (out .entry)) 0 (now (s .entry)) ⌝ }
 {
