@@ -1,0 +1,17 @@
+-- `latin9_table::main` is safe and ends.
+-- Assumes nothing.
+use Prim.Native.Nat.{_-_}
+use borrow.Author.Needs.{needs}
+use Rattle.latin9_table.proofs.main.Statement.{statement}
+use Rattle.latin9_table.proofs.main.Tie as tie
+
+abbrev Inv-loop : tie.InvT-loop
+Inv-loop byte₀ byte = Unit {0}
+
+abbrev μ-loop : tie.MeasureT-loop
+μ-loop byte₀ byte = 256 - byte
+
+pub main-spec : {M : Type 1} → statement M
+main-spec =
+    tie.close
+    (tie.spec Inv-loop μ-loop (λ c. search needs) (λ c. search needs) (λ c κs. search needs) (λ c. search needs) (λ c. search needs) (λ c. search needs) (λ c. search needs))
