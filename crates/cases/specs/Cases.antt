@@ -1,11 +1,12 @@
--- Document 01's starred cases: one table with one proof. A case is what a definition comes to and what the document says it comes to.
+-- Document 01's starred cases, and document 02's needs past any slice: each one table with one proof. A case is what a definition comes to and
+-- what the document says it comes to.
 -- Assumes nothing.
-use Prim.Native.Nat.{ℕ, _-_, _^_}
+use Prim.Native.Nat.{ℕ, _+_, _-_, _*_, _^_}
 use mathlib.Core.Path.{_≡_, refl}
 use mathlib.Core.List.{List, [], _∷_, map, flatMap}
 use mathlib.Core.Option.{Option}
 use lib.ListN.{length, take, drop}
-use Rattle.text.specs.Result.{Result, ok, error, mapResult, orError, checkCount, checkEach, foldCount, foldRange}
+use Rattle.text.specs.Result.{Result, ok, error, mapResult, orError, checkOutput, checkCount, checkEach, foldCount, foldRange}
 use Rattle.text.specs.Unicode.{utf8, utf16}
 use Rattle.text.specs.Utf16.{scalars16}
 use Rattle.text.specs.Utf8.{table, find, sequenceLength, secondRange, hasIn, matched, valueAt, wholeAt, nextAt, stepAt, partsCount, partsFrom, scalarsOf, repaired, replacedIn, scalars8, lossy, unitsOf}
@@ -96,3 +97,29 @@ starred =
 pub starred-hold : map (λ c. c .computed) starred ≡ map (λ c. c .expected) starred
 unfolding starred replacedIn flatMap foldRange foldCount decodePayload checkHeader checkDims checkLengths checkSum checkStrings checkEach checkCount dimsProduct unitCount unitsBefore storedStrings unitsIn unitAt scalars16 opaqueMetadata checkDimension buildMetadata fileWrapper offsetsFrom regions region entriesFrom u32s encodePayload arrayOf checkShape checkProduct spans.checkStrings checkString stringsFrom payload stringWords packed value utf8 utf16 scalarsOf repaired partsFrom partsCount stepAt wholeAt nextAt valueAt matched hasIn sequenceLength secondRange find table
 starred-hold = refl
+
+-- document 02's import of so many bytes whose characters have one, two and three bytes in UTF-8, into room bytes: 34 by the need alone
+-- (`text-need` of crates/text/proofs/ImportLaws.antt)
+abbrev imported : ℕ → ℕ → ℕ → ℕ → Result (List ℕ)
+imported room ones twos threes = mapResult (λ _. []) (checkOutput (ones + 2 * twos + 3 * threes) room)
+
+-- recorded needs, past any slice but for two: "any 34 whose need is past 64 bits gives place 2^64 − 1"
+unfoldable pub needs : List Case
+needs =
+    comes (imported 5 (2 ^ 64 - 1) 0 0) (refusal 34 (2 ^ 64 - 1))
+    ∷ comes (imported 5 0 0 (2 ^ 64 - 1)) (refusal 34 (2 ^ 64 - 1))
+    ∷ comes (imported 5 1 0 6148914691236517205) (refusal 34 (2 ^ 64 - 1))
+    ∷ comes (imported 5 0 0 6148914691236517205) (refusal 34 (2 ^ 64 - 1))
+    ∷ comes (imported (2 ^ 64 - 1) 0 0 6148914691236517205) (ok [])
+    ∷ comes (imported (2 ^ 64 - 1) 1 0 6148914691236517205) (refusal 34 (2 ^ 64 - 1))
+    ∷ comes (imported 5 2 2 0) (refusal 34 6)
+    ∷ comes (imported 6 2 2 0) (ok [])
+    ∷ comes (imported 5 0 (2 ^ 63) 0) (refusal 34 (2 ^ 64 - 1))
+    ∷ comes (imported 5 0 (2 ^ 63 - 1) 0) (refusal 34 (2 ^ 64 - 2))
+    ∷ comes (imported 5 0 0 (2 ^ 63 - 1)) (refusal 34 (2 ^ 64 - 1))
+    ∷ []
+
+-- every need is told so
+pub needs-hold : map (λ c. c .computed) needs ≡ map (λ c. c .expected) needs
+unfolding needs
+needs-hold = refl
