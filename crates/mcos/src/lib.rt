@@ -28,6 +28,7 @@ use store::edits::EditReply;
 use store::edits::Edited;
 use store::replace;
 use text::error::MatError;
+use text::latin9;
 use text::utf8;
 use text::utf8::LossyReply;
 use text::utf16;
@@ -37,6 +38,7 @@ use writer::string_object::LengthReply;
 ghost use mathlib.Core.Path.{_≡_};
 ghost use mathlib.Core.List.{map};
 ghost use Rattle.text.specs.Errors.{failureOf};
+ghost use Rattle.text.specs.Latin9.{exportLatin9, importLatin9};
 ghost use Rattle.text.specs.Replies.{textReplyOf};
 ghost use Rattle.text.specs.Utf16.{decodeUtf16};
 ghost use Rattle.writer.specs.Array.{encodePayload};
@@ -192,6 +194,34 @@ pub extern "C" fn mcos_write_lossy(
             34
         }
     }
+}
+
+#[no_mangle]
+pub extern "C" fn mcos_export_latin9(
+    text: &[u8],
+    out: &mut [u8],
+    bytes: &mut u64,
+    place: &mut u64,
+) -> u32
+    ensures { λ r. ⌜ (
+        let m = exportLatin9 (now (text .entry)) in
+        ExportsList (λ x. x) m (now (out .entry)) (now (bytes .entry)) (now (place .entry)) r (now (out .exit)) (now (bytes .exit)) (now (place .exit))) ⌝ }
+{
+    put_text(latin9::export_latin9(text, out), bytes, place)
+}
+
+#[no_mangle]
+pub extern "C" fn mcos_import_latin9(
+    latin9: &[u8],
+    text: &mut [u8],
+    bytes: &mut u64,
+    place: &mut u64,
+) -> u32
+    ensures { λ r. ⌜ (
+        let m = importLatin9 (now (latin9 .entry)) in
+        ExportsList (λ x. x) m (now (text .entry)) (now (bytes .entry)) (now (place .entry)) r (now (text .exit)) (now (bytes .exit)) (now (place .exit))) ⌝ }
+{
+    put_text(latin9::import_latin9(latin9, text), bytes, place)
 }
 
 #[no_mangle]
