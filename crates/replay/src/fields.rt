@@ -295,6 +295,41 @@ pub fn bytes(field: &[u8], out: &mut [u8]) -> Number {
     Number::Value(n)
 }
 
+// A byte a number of times, which may be 0, written to out from an index on: the index after them.
+fn fill(byte: u8, times: usize, out: &mut [u8], at: usize) -> Number {
+    let mut n = at;
+    let mut left = times;
+    while 0 < left {
+        if out.len() <= n {
+            return Number::Unreadable;
+        }
+        out[n] = byte;
+        n += 1;
+        left -= 1;
+    }
+    Number::Value(n)
+}
+
+// A byte as often as a field says, in the same way.
+fn fill_by(field: &[u8], byte: u8, out: &mut [u8], at: usize) -> Number {
+    let Number::Value(times) = decimal(field) else {
+        return Number::Unreadable;
+    };
+    fill(byte, times, out, at)
+}
+
+// Bytes of ISO 8859-15 whose characters have one, two and three bytes in UTF-8, as many of each as fields 2 to 4 say, written to the
+// start of out: how many there are.
+pub fn three_kinds(line: &[u8], out: &mut [u8]) -> Number {
+    let Number::Value(ones) = fill_by(field(line, 2), 0x41, out, 0) else {
+        return Number::Unreadable;
+    };
+    let Number::Value(twos) = fill_by(field(line, 3), 0xE9, out, ones) else {
+        return Number::Unreadable;
+    };
+    fill_by(field(line, 4), 0xA4, out, twos)
+}
+
 // Code units with commas between them, or `-` for none: how many there are, written to the start of out.
 pub fn units(field: &[u8], out: &mut [u16]) -> Number {
     if same(field, b"-") {

@@ -3,6 +3,7 @@ mod calls;
 mod edits;
 mod fields;
 mod labels;
+mod latin9;
 mod render;
 
 use calls::Verdict;
@@ -46,13 +47,21 @@ const LABEL: usize = 16;
 
 const CLASSID: usize = 17;
 
-const OTHER: usize = 18;
+const EXPORT: usize = 18;
 
-const KINDS: usize = 19;
+const IMPORT: usize = 19;
+
+const TABLE: usize = 20;
+
+const IMPORTNEED: usize = 21;
+
+const OTHER: usize = 22;
+
+const KINDS: usize = 23;
 
 // The names of the calls in the order of their numbers.
-const NAMES: [u8; 120] =
-    *b"utf16 lossy write build open name class wordlist props find payload road1 road2 objects appendto replacein label classid";
+const NAMES: [u8; 151] =
+    *b"utf16 lossy write build open name class wordlist props find payload road1 road2 objects appendto replacein label classid export import table importneed";
 
 // The longest line. No answer is longer than its line, so the calls have buffers of as many elements. An argument in shorthand that does
 // not fit one is unreadable.
@@ -106,6 +115,10 @@ fn replay(line: &[u8], seen: &mut [u64; KINDS], agreed: &mut [u64; KINDS]) {
         REPLACEIN => edits::replacein(line),
         LABEL => labels::label(line),
         CLASSID => calls::classid(line),
+        EXPORT => latin9::export(line),
+        IMPORT => latin9::import(line),
+        TABLE => latin9::table(line),
+        IMPORTNEED => latin9::importneed(line),
         _ => Verdict::Unknown,
     };
     count(seen, call);

@@ -4,7 +4,8 @@ use reader::labels::Part;
 use reader::labels::Source;
 use reader::objects::ObjectRow;
 use text::error::MatError;
-ghost use Prim.Native.Nat.{_≤_};
+use text::latin9::code_point;
+ghost use Prim.Native.Nat.{_≤_, _<_};
 
 fn byte(value: u8, out: &mut [u8], at: usize) -> usize {
     if at < out.len() {
@@ -220,6 +221,39 @@ pub fn strings(text: &[u8], length: usize, spans: &[u64], n: usize, out: &mut [u
 pub fn number(value: u64, out: &mut [u8]) -> usize {
     let at = word(b"= ok ", out, 0);
     let at = decimal(value, out, at);
+    word(b" #", out, at)
+}
+
+pub fn accepted(out: &mut [u8]) -> usize {
+    word(b"= ok #", out, 0)
+}
+
+// A line of the table of ISO 8859-15, its end as a line has it.
+fn table_line(byte: u8, out: &mut [u8], at: usize) -> usize {
+    let at = hex(byte as u64, 2, out, at);
+    let at = word(b" ", out, at);
+    let at = hex(code_point(byte) as u64, 4, out, at);
+    word(b"\\n", out, at)
+}
+
+fn table_lines(first: usize, last: usize, out: &mut [u8], at: usize) -> usize
+    requires { ⌜ last < 256 ⌝ }
+{
+    let mut next = at;
+    let mut i = first;
+    while i <= last {
+        next = table_line(i as u8, out, next);
+        i += 1;
+    }
+    next
+}
+
+// The lines of bytes first to last.
+pub fn table(first: usize, last: usize, out: &mut [u8]) -> usize
+    requires { ⌜ last < 256 ⌝ }
+{
+    let at = word(b"= ok ", out, 0);
+    let at = table_lines(first, last, out, at);
     word(b" #", out, at)
 }
 

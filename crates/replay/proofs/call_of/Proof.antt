@@ -9,7 +9,7 @@ abbrev Inv-loop : tie.InvT-loop
 Inv-loop name call₀ call = Unit {0}
 
 abbrev μ-loop : tie.MeasureT-loop
-μ-loop name call₀ call = 18 - call
+μ-loop name call₀ call = 22 - call
 
 pub call-of-spec : {M : Type 1} → statement M
 call-of-spec =

@@ -9,7 +9,7 @@ abbrev Inv-loop : tie.InvT-loop
 Inv-loop agreed seen call₀ call = Unit {0}
 
 abbrev μ-loop : tie.MeasureT-loop
-μ-loop agreed seen call₀ call = 18 - call
+μ-loop agreed seen call₀ call = 22 - call
 
 pub print-totals-spec : {M : Type 1} → statement M
 print-totals-spec =
