@@ -6,7 +6,7 @@
  *   0        accepted. The cells of the call's values and the front of its buffers are
  *            written. *place keeps what it held, and so does each buffer beyond the answer
  *            (an edit of a store also clears the words that the store gives up).
- *   1 .. 35  refused: the number of the first check that does not hold. *place is written
+ *   1 .. 36  refused: the number of the first check that does not hold. *place is written
  *            with where it does not hold. Nothing else is: every other cell and every
  *            buffer keeps what it held.
  *
@@ -71,13 +71,16 @@
  *   29  every surrogate is paired within its string              index of the string
  *   Writing
  *   30  spans are in sequence and in the text, strings are UTF-8 its values if odd; else the first
- *                                                                bad string
+ *                                                                bad string; in an export 0
  *   31  the product of the dimensions is the number of strings   the number of strings
  *   32  at most 2,097,152 words; at most 349,522 objects         the words; the objects
  *   33  the store is in written form (see Edits below)           0
  *   34  each output is long enough                               the need of the first that is not
  *   Labels
  *   35  the name is well-formed UTF-8                            the index
+ *   ISO 8859-15
+ *   36  each character has a byte                                index of the first that has none,
+ *                                                                in characters
  */
 #ifndef MCOS_H
 #define MCOS_H
@@ -153,6 +156,26 @@ uint32_t mcos_decode_utf16(const uint16_t *units, uintptr_t units_len,
 uint32_t mcos_write_lossy(const uint8_t *s, uintptr_t s_len,
                           uint8_t *out, uintptr_t out_len,
                           uint64_t *bytes, uint64_t *replaced, uint64_t *place);
+
+/* Exports UTF-8 text to ISO 8859-15, also called Latin-9: one byte a character. A byte's code
+ * point is the byte itself, except (hexadecimal)
+ *
+ *   A4 20AC   A6 0160   A8 0161   B4 017D   B8 017E   BC 0152   BD 0153   BE 0178
+ *
+ * so the code points A4, A6, A8, B4, B8, BC, BD and BE have no byte; 80 to 9F have their own.
+ * Checks: 30 (of the whole text; place 0), 36, 34 (out).
+ * Accepted: the bytes at the front of out, their number in *bytes. */
+uint32_t mcos_export_latin9(const uint8_t *text, uintptr_t text_len,
+                            uint8_t *out, uintptr_t out_len,
+                            uint64_t *bytes, uint64_t *place);
+
+/* Imports bytes of ISO 8859-15 as UTF-8 text. Every byte has a code point, and an export of the
+ * text gives the bytes back.
+ * Checks: 34 (text; a need past 64 bits has place 2^64 - 1).
+ * Accepted: the text at the front of text, its length in *bytes. */
+uint32_t mcos_import_latin9(const uint8_t *latin9, uintptr_t latin9_len,
+                            uint8_t *text, uintptr_t text_len,
+                            uint64_t *bytes, uint64_t *place);
 
 /* ---- Writing ----
  *

@@ -78,6 +78,89 @@ static void text_calls(void)
     CHECK(refused(mcos_write_lossy((const uint8_t *)"a\xFF", 2, text, 3, &a, &b, &place), 34, 4) && IS_KEPT(text));
 }
 
+/* The bytes of ISO 8859-15 whose code point is not the byte itself, with their characters. */
+static const struct {
+    uint8_t byte;
+    const char *text;
+} exceptions[] = {
+    {0xA4, "\xE2\x82\xAC"}, {0xA6, "\xC5\xA0"}, {0xA8, "\xC5\xA1"}, {0xB4, "\xC5\xBD"},
+    {0xB8, "\xC5\xBE"},     {0xBC, "\xC5\x92"}, {0xBD, "\xC5\x93"}, {0xBE, "\xC5\xB8"},
+};
+
+/* Writes the character of a byte in UTF-8, and gives its length. */
+static size_t character(uint8_t byte, uint8_t *text)
+{
+    for (size_t i = 0; i < 8; i++)
+        if (exceptions[i].byte == byte) {
+            memcpy(text, exceptions[i].text, strlen(exceptions[i].text));
+            return strlen(exceptions[i].text);
+        }
+    if (byte < 0x80) {
+        text[0] = byte;
+        return 1;
+    }
+    text[0] = 0xC0 | (byte >> 6);
+    text[1] = 0x80 | (byte & 0x3F);
+    return 2;
+}
+
+static void latin9_calls(void)
+{
+    uint8_t bytes[256], text[385], out[386];
+    size_t length = 0;
+
+    /* Each byte alone, then all of them. */
+    for (unsigned i = 0; i < 256; i++) {
+        uint8_t *one = text + length;
+        size_t n = character((uint8_t)i, one);
+        bytes[i] = (uint8_t)i;
+        KEEP(out), fresh();
+        CHECK(refused(mcos_import_latin9(bytes + i, 1, out, n - 1, &a, &place), 34, n) && IS_KEPT(out));
+        CHECK(refused(mcos_export_latin9(one, n, out, 0, &a, &place), 34, 1) && IS_KEPT(out));
+        fresh();
+        CHECK(accepted(mcos_import_latin9(bytes + i, 1, out, n, &a, &place)) && a == n);
+        CHECK(memcmp(out, one, n) == 0 && kept(out + n, sizeof out - n));
+        KEEP(out), fresh();
+        CHECK(accepted(mcos_export_latin9(one, n, out, 1, &a, &place)) && a == 1);
+        CHECK(out[0] == i && kept(out + 1, sizeof out - 1));
+        length += n;
+    }
+    CHECK(length == sizeof text);
+    KEEP(out), fresh();
+    CHECK(refused(mcos_import_latin9(bytes, 256, out, 384, &a, &place), 34, 385));
+    CHECK(refused(mcos_export_latin9(text, 385, out, 255, &a, &place), 34, 256));
+    CHECK(IS_KEPT(out));
+    fresh();
+    CHECK(accepted(mcos_import_latin9(bytes, 256, out, 386, &a, &place)));
+    CHECK(a == 385 && memcmp(out, text, 385) == 0 && out[385] == 0xA5);
+    KEEP(out), fresh();
+    CHECK(accepted(mcos_export_latin9(text, 385, out, 386, &a, &place)));
+    CHECK(a == 256 && memcmp(out, bytes, 256) == 0 && kept(out + 256, 130));
+
+    /* The eight code points that gave way have no byte, nor has one of four bytes. The index counts characters. */
+    KEEP(out), fresh();
+    for (size_t i = 0; i < 8; i++) {
+        const uint8_t gave_way[] = {'x', 0xC3, 0xA9, 0xC2, exceptions[i].byte, 0xC2, 0xA4};
+        CHECK(refused(mcos_export_latin9(gave_way, 7, out, 7, &a, &place), 36, 2));
+        CHECK(refused(mcos_export_latin9(gave_way + 3, 2, out, 0, &a, &place), 36, 0));
+    }
+    const uint8_t oil[] = {0xE2, 0x82, 0xAC, 0xF0, 0x9F, 0x9B, 0xA2, 'x', 0xFF};
+    CHECK(refused(mcos_export_latin9(oil, 8, out, 8, &a, &place), 36, 1));
+
+    /* The whole text is asked to be UTF-8 before. */
+    CHECK(refused(mcos_export_latin9(oil, 9, out, 0, &a, &place), 30, 0));
+    CHECK(refused(mcos_export_latin9(oil, 6, out, 8, &a, &place), 30, 0));
+    CHECK(refused(mcos_export_latin9(oil, 2, out, 8, &a, &place), 30, 0));
+    CHECK(IS_KEPT(out));
+
+    /* No text. There is nothing to read or to write where it would begin. */
+    fresh();
+    CHECK(accepted(mcos_export_latin9(oil + sizeof oil, 0, out + sizeof out, 0, &a, &place)) && a == 0);
+    fresh();
+    CHECK(accepted(mcos_import_latin9(oil + sizeof oil, 0, out + sizeof out, 0, &a, &place)) && a == 0);
+    CHECK(IS_KEPT(out));
+}
+
 static void writing_calls(void)
 {
     uint32_t metadata[6];
@@ -411,6 +494,7 @@ static void empty_blob_calls(void)
 int main(void)
 {
     text_calls();
+    latin9_calls();
     writing_calls();
     blob_calls();
     label_calls();

@@ -25,7 +25,7 @@ macro_rules! kinds {
         }
 
         impl MatError {
-            /// The number of the check, from 1 to 35.
+            /// The number of the check, from 1 to 36.
             pub const fn number(self) -> u32 {
                 match self {
                     $(Self::$kind(_) => $number,)*
@@ -39,7 +39,7 @@ macro_rules! kinds {
                 }
             }
 
-            /// The kind of a number; `None` for a number outside 1 to 35.
+            /// The kind of a number; `None` for a number outside 1 to 36.
             pub const fn new(number: u32, place: u64) -> Option<Self> {
                 match number {
                     $($number => Some(Self::$kind(place)),)*
@@ -127,8 +127,9 @@ kinds! {
     /// string.
     29 UnpairedSurrogate: "a surrogate is not paired",
     /// Spans are out of sequence, leave the text or cut out no UTF-8. Place:
-    /// the number of values if that is odd, else the first bad string.
-    30 InvalidText: "the spans cut out no list of UTF-8 strings",
+    /// the number of values if that is odd, else the first bad string. Or the
+    /// text of an export is not well-formed UTF-8. Place: 0.
+    30 InvalidText: "the text is not UTF-8, or the spans cut out no list of UTF-8 strings",
     /// The product of the dimensions is not the number of strings. Place: the
     /// number of strings.
     31 ShapeMismatch: "the dimensions do not match the number of strings",
@@ -142,6 +143,9 @@ kinds! {
     34 OutputTooShort: "a buffer is too short",
     /// The name of a label is not well-formed UTF-8. Place: its index.
     35 NameIllFormed: "the name is not well-formed UTF-8",
+    /// A character of an export has no byte in ISO 8859-15. Place: its index,
+    /// in characters.
+    36 UnmappableCharacter: "a character has no byte in ISO 8859-15",
 }
 
 impl fmt::Display for MatError {
@@ -157,6 +161,6 @@ impl std::error::Error for MatError {}
 pub(crate) fn answer<T>(number: u32, place: u64, values: T) -> Result<T, MatError> {
     match number {
         0 => Ok(values),
-        _ => Err(MatError::new(number, place).expect("a call answers 0 to 35")),
+        _ => Err(MatError::new(number, place).expect("a call answers 0 to 36")),
     }
 }

@@ -54,6 +54,24 @@ unsafe extern "C" {
         place: *mut u64,
     ) -> u32;
 
+    pub fn mcos_export_latin9(
+        text: *const u8,
+        text_len: usize,
+        out: *mut u8,
+        out_len: usize,
+        bytes: *mut u64,
+        place: *mut u64,
+    ) -> u32;
+
+    pub fn mcos_import_latin9(
+        latin9: *const u8,
+        latin9_len: usize,
+        text: *mut u8,
+        text_len: usize,
+        bytes: *mut u64,
+        place: *mut u64,
+    ) -> u32;
+
     pub fn mcos_create_string_object_metadata(object_id: u32, metadata: *mut [u32; 6]);
 
     pub fn mcos_measure_payload(

@@ -46,6 +46,8 @@
 //! ```
 //!
 //! [`append`] and [`replace`] build such a store array by array, and change it.
+//! [`export_latin9`] and [`import_latin9`] turn a string into the bytes that a
+//! display of ISO 8859-15 takes, and such bytes into a string.
 #![deny(missing_docs)]
 
 mod blob;
@@ -53,6 +55,7 @@ mod edits;
 mod error;
 pub mod ffi;
 mod labels;
+mod latin9;
 mod objects;
 mod strings;
 mod text;
@@ -65,6 +68,7 @@ pub use blob::{
 pub use edits::{Array, Buffers, Counts, append, replace};
 pub use error::MatError;
 pub use labels::{Label, Source, label, label_source};
+pub use latin9::{export_latin9, import_latin9};
 pub use objects::list_objects;
 pub use strings::{
     Cells, OpaqueMetadata, Strings, decode_string, decode_string_object, decode_string_saveobj,

@@ -56,6 +56,38 @@ fn text() {
 }
 
 #[test]
+fn latin9() {
+    let mut out = [0; 4];
+    // One character that has a byte, one that has none, and an ill-formed part.
+    let text = b"\xE2\x82\xAC\xC2\xA4\xFF".as_ptr();
+    let (out, bytes) = (out.as_mut_ptr(), b"A\xA4".as_ptr());
+    accepts([1, KEPT], |a, _, place| unsafe {
+        ffi::mcos_export_latin9(text, 3, out, 4, a, place)
+    });
+    accepts([0, KEPT], |a, _, place| unsafe {
+        ffi::mcos_export_latin9(text, 0, out, 0, a, place)
+    });
+    refuses(34, 1, |a, _, place| unsafe {
+        ffi::mcos_export_latin9(text, 3, out, 0, a, place)
+    });
+    refuses(36, 1, |a, _, place| unsafe {
+        ffi::mcos_export_latin9(text, 5, out, 4, a, place)
+    });
+    refuses(30, 0, |a, _, place| unsafe {
+        ffi::mcos_export_latin9(text, 6, out, 4, a, place)
+    });
+    accepts([4, KEPT], |a, _, place| unsafe {
+        ffi::mcos_import_latin9(bytes, 2, out, 4, a, place)
+    });
+    accepts([0, KEPT], |a, _, place| unsafe {
+        ffi::mcos_import_latin9(bytes, 0, out, 0, a, place)
+    });
+    refuses(34, 4, |a, _, place| unsafe {
+        ffi::mcos_import_latin9(bytes, 2, out, 3, a, place)
+    });
+}
+
+#[test]
 fn writing() {
     let (dims, spans) = ([1u64], [0u64, 1]);
     let (dims, spans, text) = (dims.as_ptr(), spans.as_ptr(), b"A".as_ptr());

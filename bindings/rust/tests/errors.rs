@@ -8,14 +8,14 @@ use mcos::MatError;
 #[test]
 fn each_number_is_a_kind_with_a_place() {
     let mut texts = HashSet::new();
-    for number in 1..=35 {
+    for number in 1..=36 {
         let error = MatError::new(number, 7).unwrap();
         assert_eq!((error.number(), error.place()), (number, 7));
         let text = error.to_string();
         assert!(text.ends_with(&format!(" (check {number}, place 7)")));
         assert!(texts.insert(text));
     }
-    assert_eq!((MatError::new(0, 7), MatError::new(36, 7)), (None, None));
+    assert_eq!((MatError::new(0, 7), MatError::new(37, 7)), (None, None));
 }
 
 #[test]
@@ -30,6 +30,7 @@ fn the_order_is_that_of_the_numbers() {
         (33, MatError::NotCanonical(0)),
         (34, MatError::OutputTooShort(0)),
         (35, MatError::NameIllFormed(0)),
+        (36, MatError::UnmappableCharacter(0)),
     ] {
         assert_eq!(error.number(), number);
     }
