@@ -156,6 +156,7 @@ impl Outcome {
             }
             (Fault::Written, Ok(())) => left.store.words[0] ^= 1,
             (Fault::Kept, _) => return change_last(left),
+            (Fault::Beyond, _) => left.store.words[left.lengths.words] ^= 1,
             (Fault::GivenUp, Ok(())) if !given_up.is_empty() => {
                 left.store.words[given_up.start as usize] = 1;
             }

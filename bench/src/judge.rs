@@ -3,8 +3,9 @@
 use mcos::MatError;
 use oracle::Refusal;
 
+use crate::latin9::Wrong;
 use crate::lent::{Lengths, Lent, Room, Written};
-use crate::library::{Cells, KEPT, Part, Reply, Values};
+use crate::library::{Cells, KEPT, Part, Reply, Values, values};
 use crate::rules::{self, Limit, Rule};
 use crate::tally::{Kind, Tally};
 
@@ -45,6 +46,9 @@ pub enum Fault {
     /// The last lent element is written to: a part that must be kept, except
     /// where the buffer is exactly full.
     Kept,
+    /// An element after those that are written is written too; where the buffer
+    /// is exactly full it lies past its end.
+    Beyond,
     /// A word that an edit gives up is not 0.
     GivenUp,
     /// An accepted call is refused.
@@ -59,16 +63,19 @@ pub enum Fault {
     KeptCell,
     /// The slice of a label lies one byte further on.
     Part,
+    /// An export or import is a wrong program's.
+    Latin9(Wrong),
 }
 
 impl Fault {
     /// All of them.
-    pub const ALL: [Self; 12] = [
+    pub const ALL: [Self; 21] = [
         Self::Value(0),
         Self::Value(1),
         Self::Value(2),
         Self::Written,
         Self::Kept,
+        Self::Beyond,
         Self::GivenUp,
         Self::Refuses,
         Self::Accepts,
@@ -76,6 +83,14 @@ impl Fault {
         Self::PlaceCell,
         Self::KeptCell,
         Self::Part,
+        Self::Latin9(Wrong::OwnByte),
+        Self::Latin9(Wrong::NoControls),
+        Self::Latin9(Wrong::PlaceInBytes),
+        Self::Latin9(Wrong::PlaceOfPart),
+        Self::Latin9(Wrong::UnmappableFirst),
+        Self::Latin9(Wrong::RoomFirst),
+        Self::Latin9(Wrong::Bound),
+        Self::Latin9(Wrong::Halfway),
     ];
 
     /// Puts the fault into a reply or its buffers; false if it has no place
@@ -169,6 +184,40 @@ impl Judge {
         self.faulted = false;
         let verdict = self.compare(case, &rust, &mut call);
         self.settle(case, self.faulted, verdict);
+    }
+
+    /// Holds one call on an output of so many bytes to plain code: the bytes
+    /// that it writes and the number of them, or its refusal. The call tells
+    /// whether it put a fault into its reply.
+    pub(crate) fn hold_output(
+        &mut self,
+        case: &Case<'_>,
+        room: usize,
+        expected: Result<&[u8], MatError>,
+        mut call: impl FnMut(Room<'_>) -> (Reply, bool),
+    ) {
+        self.faulted = false;
+        let written = Written {
+            text: expected.unwrap_or_default(),
+            ..Written::default()
+        };
+        let lengths = Lengths {
+            text: room,
+            ..NOTHING
+        };
+        let mut faulted = false;
+        let answer = self.call(lengths, written, &mut |room: Room<'_>| {
+            let (reply, put) = call(room);
+            faulted = put;
+            reply
+        });
+        let expected = expected.map(|bytes| values([bytes.len() as u64]));
+        let verdict = answer.and_then(|answer| match answer {
+            _ if answer != expected => Err(format!("{answer:?}; expected {expected:?}")),
+            Ok(_) => Ok(Agreement::Accepted),
+            Err(error) => Ok(Agreement::Refused(error)),
+        });
+        self.settle(case, faulted || self.faulted, verdict);
     }
 
     /// Counts a case: how the two sides agree, or what is different.
@@ -285,6 +334,12 @@ impl Judge {
             Ok(_) => written,
             Err(_) => Written::default(),
         };
+        if self.fault == Some(Fault::Beyond) {
+            let after = expected.text.len().min(lengths.text);
+            let text = lengths.text + 1;
+            self.lent.lend(Lengths { text, ..lengths }).text[after] ^= 1;
+            self.faulted = true;
+        }
         let held = self.lent.holds(expected, lengths);
         let Reply {
             answer,

@@ -8,6 +8,7 @@ pub mod generate;
 pub mod judge;
 pub mod kinds;
 pub mod labels;
+pub mod latin9;
 pub mod lent;
 pub mod library;
 pub mod rng;

@@ -111,6 +111,32 @@ pub fn write_lossy(s: &[u8], room: Room<'_>) -> Reply {
     }
 }
 
+/// The safe and the C form of a call that writes bytes for bytes.
+type SafeBytes = fn(&[u8], &mut [u8]) -> Result<usize, MatError>;
+type CBytes = unsafe extern "C" fn(*const u8, usize, *mut u8, usize, *mut u64, *mut u64) -> u32;
+
+fn converted((safe, c): (SafeBytes, CBytes), bytes: &[u8], room: Room<'_>) -> Reply {
+    let out = room.text;
+    Reply {
+        answer: safe(bytes, out).map(|n| values([n as u64])),
+        cells: Cells::of(|cell, place| unsafe {
+            let (bytes, len) = (bytes.as_ptr(), bytes.len());
+            c(bytes, len, out.as_mut_ptr(), out.len(), cell, place)
+        }),
+        part: None,
+    }
+}
+
+pub fn export_latin9(text: &[u8], room: Room<'_>) -> Reply {
+    let calls: (SafeBytes, CBytes) = (mcos::export_latin9, ffi::mcos_export_latin9);
+    converted(calls, text, room)
+}
+
+pub fn import_latin9(latin9: &[u8], room: Room<'_>) -> Reply {
+    let calls: (SafeBytes, CBytes) = (mcos::import_latin9, ffi::mcos_import_latin9);
+    converted(calls, latin9, room)
+}
+
 /// The metadata goes to two of its words a value.
 pub fn create_string_object_metadata(id: u32) -> Reply {
     let packed = |words: [u32; 6]| {

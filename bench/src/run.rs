@@ -2,6 +2,7 @@
 
 mod edits;
 mod labels;
+mod latin9;
 
 use crate::empty;
 use crate::generate::{arrays, blobs, every, lists, payloads, stores, text};
@@ -18,6 +19,9 @@ pub type Share = (usize, usize);
 pub fn exhaustive(judge: &mut Judge, share: Share) {
     utf16_units(judge, share);
     lossy_bytes(judge, share);
+    latin9::characters(judge, share);
+    latin9::short_texts(judge, share);
+    latin9::short_bytes(judge, share);
     headers(judge, share);
     damaged_bytes(judge, share);
     shorter_than_a_header(judge, share);
@@ -175,6 +179,7 @@ fn short_arrays(judge: &mut Judge, share: Share) {
 
 /// The smallest inputs of the known differences and findings.
 pub fn known(judge: &mut Judge) {
+    latin9::known(judge);
     let header = |names| blobs::header(names, &[40; 8], &[]);
     kinds::blob(judge, &[]);
     for names in [0, 1, 2, 1 << 20, (1 << 20) + 1, u32::MAX] {
@@ -225,8 +230,9 @@ pub fn known(judge: &mut Judge) {
     }
 }
 
-/// Inputs at the limits, and one past them.
+/// Inputs at the limits, and one past them; texts have none, so long ones.
 pub fn limits(judge: &mut Judge) {
+    latin9::long(judge);
     for objects in [
         349_521,
         349_522,
@@ -287,6 +293,7 @@ pub fn round(judge: &mut Judge, rng: &mut Rng) {
         text::bytes(rng, 20, &mut bytes);
         kinds::lossy(judge, &bytes);
     }
+    latin9::round(judge, rng);
     let mut blob = if rng.once_in(8) {
         let most = *rng.pick(&[6, 6, 6, 60]);
         oracle::build_metadata(rng.below(most)).expect("a few objects")

@@ -5,14 +5,16 @@ use std::fmt;
 
 use crate::rules::Rule;
 
-/// The numbers of an answer: 0, and the checks 1 to 35.
-const NUMBERS: usize = 36;
+/// The numbers of an answer: 0, and the checks 1 to 36.
+const NUMBERS: usize = 37;
 
 /// What is compared.
 #[derive(Debug, Clone, Copy, PartialEq, Eq, PartialOrd, Ord)]
 pub enum Kind {
     Utf16,
     Lossy,
+    Export,
+    Import,
     Open,
     Name,
     Label,
@@ -39,6 +41,11 @@ pub enum Kind {
 }
 
 impl Kind {
+    /// Whether it is held to plain code of document 02 alone.
+    fn is_latin9(self) -> bool {
+        matches!(self, Self::Export | Self::Import)
+    }
+
     /// Whether it is an edit, which is held to the edited list.
     fn is_edit(self) -> bool {
         self >= Self::Append
@@ -50,6 +57,8 @@ impl fmt::Display for Kind {
         f.pad(match self {
             Self::Utf16 => "decode_utf16",
             Self::Lossy => "write_lossy",
+            Self::Export => "export_latin9",
+            Self::Import => "import_latin9",
             Self::Open => "FileWrapper::parse",
             Self::Name => "name",
             Self::Label => "label",
@@ -182,7 +191,7 @@ impl fmt::Display for Tally {
         )?;
         writeln!(f, "|---|---:|---:|---:|---:|---:|")?;
         let mut total = [0; 5];
-        let (mut refused, mut edits) = ([0; NUMBERS], [0; NUMBERS]);
+        let (mut refused, mut latin9, mut edits) = ([0; NUMBERS], [0; NUMBERS], [0; NUMBERS]);
         for (kind, count) in &self.counts {
             let explained = count.explained.values().map(|seen| seen.cases).sum();
             let row = [
@@ -196,6 +205,8 @@ impl fmt::Display for Tally {
             add(&mut total, row);
             let by_check = if kind.is_edit() {
                 &mut edits
+            } else if kind.is_latin9() {
+                &mut latin9
             } else {
                 &mut refused
             };
@@ -203,6 +214,11 @@ impl fmt::Display for Tally {
         }
         write_row(f, "total", total)?;
         writeln!(f, "\nAgreed refused, by check: {}", by_check(&refused))?;
+        let latin9 = by_check(&latin9);
+        writeln!(
+            f,
+            "\nAgreed refused exports and imports, by check: {latin9}"
+        )?;
         writeln!(f, "\nAgreed refused edits, by check: {}", by_check(&edits))?;
         let differences = |(kind, count): (&Kind, &Count)| {
             let kind = *kind;

@@ -2,6 +2,7 @@
 //! without one there is nothing to report.
 
 use bench::judge::{Fault, Judge};
+use bench::latin9::Wrong;
 use bench::rng::Rng;
 use bench::run;
 use bench::tally::Kind;
@@ -12,14 +13,31 @@ fn every_fault_is_reported() {
         let tally = run::faulty(fault, 20);
         let put = |kind| tally.counts[&kind].faults > 0;
         let edits = put(Kind::Append) || put(Kind::Replace);
-        assert!(edits || fault == Fault::Part, "{fault:?} in no edit");
-        let labels = put(Kind::Label);
-        assert!(labels || fault == Fault::GivenUp, "{fault:?} in no label");
-        let empty = put(Kind::Empty);
-        assert!(
-            empty || fault == Fault::GivenUp,
-            "{fault:?} in no empty blob"
-        );
+        let (exports, imports) = (put(Kind::Export), put(Kind::Import));
+        if let Fault::Latin9(wrong) = fault {
+            assert!(exports, "{fault:?} in no export");
+            let both = matches!(wrong, Wrong::OwnByte | Wrong::Bound | Wrong::Halfway);
+            assert_eq!(imports, both, "{fault:?} in imports");
+        } else {
+            assert!(edits || fault == Fault::Part, "{fault:?} in no edit");
+            let labels = put(Kind::Label);
+            assert!(labels || fault == Fault::GivenUp, "{fault:?} in no label");
+            let empty = put(Kind::Empty);
+            assert!(
+                empty || fault == Fault::GivenUp,
+                "{fault:?} in no empty blob"
+            );
+            // They have one value, and nothing that is given up or a slice.
+            let none = [
+                Fault::Value(1),
+                Fault::Value(2),
+                Fault::GivenUp,
+                Fault::Part,
+            ];
+            let places = (exports, imports);
+            let expected = !none.contains(&fault);
+            assert_eq!(places, (expected, expected), "{fault:?} in Latin-9");
+        }
         let mut faults = 0;
         for (kind, count) in tally.counts {
             assert_eq!(
@@ -51,7 +69,9 @@ fn no_fault_is_no_report() {
         assert!(explained(number), "{number} is not seen");
     }
     for (kind, numbers) in [
-        (Kind::Label, &[2, 3, 5, 6, 11][..]),
+        (Kind::Export, &[30, 34, 36][..]),
+        (Kind::Import, &[34]),
+        (Kind::Label, &[2, 3, 5, 6, 11]),
         (Kind::Empty, &[13, 14, 33]),
         (Kind::Append, &[30, 31, 34]),
         (Kind::Replace, &[8, 30, 31, 34]),

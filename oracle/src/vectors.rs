@@ -41,9 +41,8 @@ pub fn answer(line: &str) -> Reply {
     let name = words.next().unwrap_or_default();
     let args: Vec<&str> = words.collect();
     match name {
-        "objects" | "listing" | "appendto" | "replacein" | "label" => {
-            Reply::None("the Rust has no such call")
-        }
+        "objects" | "listing" | "appendto" | "replacein" | "label" | "export" | "import"
+        | "table" | "importneed" => Reply::None("the Rust has no such call"),
         _ => call_rust(name, &args).unwrap_or(Reply::None("the line cannot be read")),
     }
 }

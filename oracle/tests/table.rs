@@ -1,6 +1,7 @@
 //! Cases of document 01's table that the Rust can answer, and the guards seen
 //! from outside.
 
+use oracle::vectors::{self, Reply};
 use oracle::{Cell, Refusal};
 
 const MAGIC: u32 = 0xDD00_0000;
@@ -66,6 +67,22 @@ fn word_lists() {
 fn names() {
     assert_eq!(oracle::from_utf8_lossy(b"\xF4\x80\x80"), "\u{FFFD}");
     assert_eq!(oracle::from_utf8_lossy(b"\xE0\x80"), "\u{FFFD}\u{FFFD}");
+}
+
+#[test]
+fn calls_that_the_rust_has_not() {
+    for line in [
+        "label - - 0 = ok placeholder 0 0 - # doc",
+        "export c3a9 1 = ok e9 # doc",
+        "import e9 2 = ok c3a9 # doc",
+        "table 0 0 = ok 00 0000\\n # doc",
+        "importneed 5 2 2 0 = no 34 6 # doc",
+    ] {
+        let reply = vectors::answer(line);
+        assert_eq!(reply, Reply::None("the Rust has no such call"), "{line}");
+    }
+    let unknown = vectors::answer("unknown 1");
+    assert_eq!(unknown, Reply::None("the line cannot be read"));
 }
 
 #[test]

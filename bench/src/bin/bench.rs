@@ -6,8 +6,11 @@ use std::time::{Duration, Instant};
 
 use bench::edited::EditedList;
 use bench::generate::blobs::Plan;
+use bench::generate::latin9::{ASCII_WORDS, WORDS, words};
 use bench::generate::lists::MAGIC;
-use mcos::{Array, Buffers, Counts, FileWrapper, ObjectRow, Property};
+use bench::latin9::{byte_of, code_point};
+use bench::rng::Rng;
+use mcos::{Array, Buffers, Counts, FileWrapper, MatError, ObjectRow, Property};
 
 /// Each side is timed so many times, in turn; the best counts.
 const TURNS: usize = 60;
@@ -29,6 +32,7 @@ fn main() {
     word_lists();
     building();
     text();
+    latin9();
     edits();
 }
 
@@ -359,6 +363,74 @@ fn text() {
         let rust = || oracle::from_utf8_lossy(black_box(&bytes));
         time(&format!("repair 40,000 bytes, {name}"), library, rust);
     }
+}
+
+/// Exports and imports. The Rust has neither: its side is a plain loop over
+/// characters into a lent slice, which puts the same checks.
+fn latin9() {
+    const LENGTH: usize = 40_000;
+    let mut rng = Rng::new(1);
+    let pattern = "Größe naïve façade ".chars().cycle().take(LENGTH).collect();
+    let any = (0..LENGTH).map(|_| code_point(rng.bits() as u8)).collect();
+    for (name, text) in [
+        ("ASCII", words(&mut rng, &ASCII_WORDS, LENGTH)),
+        ("Latin, a pattern", pattern),
+        ("Latin, words in no order", words(&mut rng, &WORDS, LENGTH)),
+        ("any of the 256 in no order", any),
+    ] {
+        let (mut bytes, mut by_rust) = (vec![0; LENGTH], vec![0; LENGTH]);
+        let text = text.as_bytes();
+        let mut library = || mcos::export_latin9(black_box(text), &mut bytes);
+        let mut rust = || plain_export(black_box(text), &mut by_rust);
+        assert_eq!((library(), rust()), (Ok(LENGTH), Ok(LENGTH)));
+        time(
+            &format!("export 40,000 characters to Latin-9, {name}"),
+            library,
+            rust,
+        );
+        assert_eq!(bytes, by_rust);
+
+        let (mut back, mut by_rust) = (vec![0; text.len()], vec![0; text.len()]);
+        let mut library = || mcos::import_latin9(black_box(&bytes), &mut back);
+        let mut rust = || plain_import(black_box(&bytes), &mut by_rust);
+        assert_eq!((library(), rust()), (Ok(text.len()), Ok(text.len())));
+        time(
+            &format!("import 40,000 bytes of Latin-9, {name}"),
+            library,
+            rust,
+        );
+        assert_eq!((&back[..], &by_rust[..]), (text, text));
+    }
+}
+
+fn plain_export(text: &[u8], out: &mut [u8]) -> Result<usize, MatError> {
+    let text = std::str::from_utf8(text).map_err(|_| MatError::InvalidText(0))?;
+    let mut need = 0;
+    for c in text.chars() {
+        if byte_of(c).is_none() {
+            return Err(MatError::UnmappableCharacter(need as u64));
+        }
+        need += 1;
+    }
+    if out.len() < need {
+        return Err(MatError::OutputTooShort(need as u64));
+    }
+    for (to, byte) in out.iter_mut().zip(text.chars().filter_map(byte_of)) {
+        *to = byte;
+    }
+    Ok(need)
+}
+
+fn plain_import(bytes: &[u8], out: &mut [u8]) -> Result<usize, MatError> {
+    let need = bytes.iter().map(|&byte| code_point(byte).len_utf8()).sum();
+    if out.len() < need {
+        return Err(MatError::OutputTooShort(need as u64));
+    }
+    let mut at = 0;
+    for &byte in bytes {
+        at += code_point(byte).encode_utf8(&mut out[at..]).len();
+    }
+    Ok(need)
 }
 
 /// The buffers of a store, exactly full with so many rows of 12 characters.

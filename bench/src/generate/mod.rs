@@ -3,6 +3,7 @@
 pub mod arrays;
 pub mod blobs;
 pub mod edits;
+pub mod latin9;
 pub mod lists;
 pub mod payloads;
 pub mod stores;
