@@ -115,10 +115,11 @@ pub high-none : (v : ℕ) → 256 ≤ v → Unlisted v exceptions → none ≡ b
 high-none v h u = sym (unlisted-none v u (λ l _. omega arith))
 
 pub far-none : (v : ℕ) → 0x3000 ≤ v → none ≡ byteOf v
-unfolding exceptions
-far-none v h =
-    high-none v (omega arith)
-    ((λ e. omega arith), ((λ e. omega arith), ((λ e. omega arith), ((λ e. omega arith), ((λ e. omega arith), ((λ e. omega arith), ((λ e. omega arith), ((λ e. omega arith), tt))))))))
+far-none v h = by (byteOf v) refl
+  where
+    by : (m : Option ℕ) → byteOf v ≡ m → none ≡ m
+    by none e = refl
+    by (some b) e = let p = byte-is e in absurd (omega (arith, p .1, point-top b (p .0)))
 
 unlisted-low : (v : ℕ) → v < 256 → Unlisted v exceptions
 unfolding exceptions

@@ -1,44 +1,13 @@
 -- `text::latin9::byte_of` meets its contract: a law for each return.
 -- Assumes nothing.
+use mathlib.Core.Path.{_∙_, sym}
 use native.Mathlib.Omega.{arith}
 use borrow.Author.Needs.{needs}
-use Rattle.text.specs.Latin9.{exceptions, pointIn, codePoint}
+use Rattle.text.specs.Latin9.{exceptions}
 use Rattle.text.proofs.ExportLaws.{own-byte, no-byte, listed-byte}
-use Rattle.text.proofs.Latin9Laws.{high-none}
+use Rattle.text.proofs.Latin9Laws.{point-cases, high-none}
 use Rattle.text.proofs.latin9.byte_of.Statement.{statement}
 use Rattle.text.proofs.latin9.byte_of.Tie as tie
-
-returns-3 : tie.Need-returns-3
-unfolding codePoint pointIn exceptions
-returns-3 c = listed-byte 0xA4 (omega arith) (c .match .keys1)
-
-returns-4 : tie.Need-returns-4
-unfolding codePoint pointIn exceptions
-returns-4 c = listed-byte 0xA6 (omega arith) (c .match .keys2)
-
-returns-5 : tie.Need-returns-5
-unfolding codePoint pointIn exceptions
-returns-5 c = listed-byte 0xA8 (omega arith) (c .match .keys3)
-
-returns-6 : tie.Need-returns-6
-unfolding codePoint pointIn exceptions
-returns-6 c = listed-byte 0xB4 (omega arith) (c .match .keys4)
-
-returns-7 : tie.Need-returns-7
-unfolding codePoint pointIn exceptions
-returns-7 c = listed-byte 0xB8 (omega arith) (c .match .keys5)
-
-returns-8 : tie.Need-returns-8
-unfolding codePoint pointIn exceptions
-returns-8 c = listed-byte 0xBC (omega arith) (c .match .keys6)
-
-returns-9 : tie.Need-returns-9
-unfolding codePoint pointIn exceptions
-returns-9 c = listed-byte 0xBD (omega arith) (c .match .keys7)
-
-returns-10 : tie.Need-returns-10
-unfolding codePoint pointIn exceptions
-returns-10 c = listed-byte 0xBE (omega arith) (c .match .keys8)
 
 returns-11 : tie.Need-returns-11
 unfolding exceptions
@@ -52,12 +21,12 @@ byte-of-spec =
     (λ c. search needs)
     (λ c. search (own-byte, needs))
     (λ c. search (no-byte, needs))
-    returns-3
-    returns-4
-    returns-5
-    returns-6
-    returns-7
-    returns-8
-    returns-9
-    returns-10
+    (λ c. listed-byte 0xA4 (omega arith) (c .match .keys1 ∙ sym (point-cases 0xA4)))
+    (λ c. listed-byte 0xA6 (omega arith) (c .match .keys2 ∙ sym (point-cases 0xA6)))
+    (λ c. listed-byte 0xA8 (omega arith) (c .match .keys3 ∙ sym (point-cases 0xA8)))
+    (λ c. listed-byte 0xB4 (omega arith) (c .match .keys4 ∙ sym (point-cases 0xB4)))
+    (λ c. listed-byte 0xB8 (omega arith) (c .match .keys5 ∙ sym (point-cases 0xB8)))
+    (λ c. listed-byte 0xBC (omega arith) (c .match .keys6 ∙ sym (point-cases 0xBC)))
+    (λ c. listed-byte 0xBD (omega arith) (c .match .keys7 ∙ sym (point-cases 0xBD)))
+    (λ c. listed-byte 0xBE (omega arith) (c .match .keys8 ∙ sym (point-cases 0xBE)))
     returns-11)
