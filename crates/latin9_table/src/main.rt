@@ -1,5 +1,5 @@
-// Makes the table of ISO 8859-15 from its rule and prints it: 256 lines from byte 0 up, each with the byte as two hexadecimal digits, a space
-// and the code point as four.
+// Makes the table of ISO 8859-15 from its rule and prints it: 256 lines from byte 0 up, each with the byte as two hexadecimal digits, a
+// space and the code point as four.
 use libc::STDOUT_FILENO;
 ghost use mathlib.Core.Path.{_≡_};
 ghost use Rattle.text.specs.Latin9.{codePoint};

@@ -205,7 +205,8 @@ pub extern "C" fn mcos_export_latin9(
 ) -> u32
     ensures { λ r. ⌜ (
         let m = exportLatin9 (now (text .entry)) in
-        ExportsList (λ x. x) m (now (out .entry)) (now (bytes .entry)) (now (place .entry)) r (now (out .exit)) (now (bytes .exit)) (now (place .exit))) ⌝ }
+        ExportsList (λ x. x) m (now (out .entry)) (now (bytes .entry)) (now (place .entry)) r
+        (now (out .exit)) (now (bytes .exit)) (now (place .exit))) ⌝ }
 {
     put_text(latin9::export_latin9(text, out), bytes, place)
 }
@@ -219,7 +220,8 @@ pub extern "C" fn mcos_import_latin9(
 ) -> u32
     ensures { λ r. ⌜ (
         let m = importLatin9 (now (latin9 .entry)) in
-        ExportsList (λ x. x) m (now (text .entry)) (now (bytes .entry)) (now (place .entry)) r (now (text .exit)) (now (bytes .exit)) (now (place .exit))) ⌝ }
+        ExportsList (λ x. x) m (now (text .entry)) (now (bytes .entry)) (now (place .entry)) r
+        (now (text .exit)) (now (bytes .exit)) (now (place .exit))) ⌝ }
 {
     put_text(latin9::import_latin9(latin9, text), bytes, place)
 }
