@@ -1,4 +1,4 @@
--- Document 01's starred cases, and document 02's needs past any slice: each one table with one proof. A case is what a definition comes to and
+-- Document 01's starred cases, and document 02's needs of an import: each one table with one proof. A case is what a definition comes to and
 -- what the document says it comes to.
 -- Assumes nothing.
 use Prim.Native.Nat.{ℕ, _+_, _-_, _*_, _^_}
@@ -103,7 +103,7 @@ starred-hold = refl
 abbrev imported : ℕ → ℕ → ℕ → ℕ → Result (List ℕ)
 imported room ones twos threes = mapResult (λ _. []) (checkOutput (ones + 2 * twos + 3 * threes) room)
 
--- recorded needs, past any slice but for two: "any 34 whose need is past 64 bits gives place 2^64 − 1"
+-- recorded needs, all but two for more bytes than a program can hold: "any 34 whose need is past 64 bits gives place 2^64 − 1"
 unfoldable pub needs : List Case
 needs =
     comes (imported 5 (2 ^ 64 - 1) 0 0) (refusal 34 (2 ^ 64 - 1))
