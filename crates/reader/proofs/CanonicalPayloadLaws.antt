@@ -2,19 +2,20 @@
 -- writing gives for its array, and writing accepts that array.
 -- Assumes nothing.
 use mathlib.Core.Path.{_≡_, refl, _∙_, sym, ap, ap₂}
-use mathlib.Core.Bool.{Bool, true, false}
+use mathlib.Core.Bool.{Bool, true, false, not}
 use mathlib.Core.List.{List, [], _∷_, _++_, flatMap}
 use mathlib.Core.Option.{Option, some, Option·getD}
 use Prim.Native.Nat.{ℕ, zero, suc, _+_, _-_, _*_, _/_, _%_, _^_, _≤_, _<_}
 use native.Mathlib.Nat.{zero-add}
 use native.Mathlib.Omega.{arith}
-use borrow.Author.Tests.{le-leb, eq-eqb, eqb-true}
+use borrow.Author.Tests.{le-leb, eq-eqb, eqb-true, not-true, not-false}
 use lib.ListN.{length, getD, take, drop, length-append, length-drop, length-map, take-append-drop, List·getD-append}
 use lib.Seq.{drop-cons, drop-drop, drop-at, take-at, getD-drop, getD-take, ext-getD, length-take-le}
 use Rattle.text.specs.Buffer.{same}
 use Rattle.text.specs.Result.{Result, ok, error, checkEach, foldCount, foldRange, isOk, valuesOf, mapResult}
 use Rattle.text.specs.Utf8.{unitsOf}
 use Rattle.text.specs.Utf16.{theText}
+use Rattle.text.specs.declared.error.Failure.{Failure}
 use Rattle.text.specs.declared.error.MatError.{MatError}
 use Rattle.text.proofs.ResultLaws.{reply-is, seq-passed, checkEach-passed}
 use Rattle.text.proofs.SameLaws.{same-refl, same-is}
@@ -25,14 +26,17 @@ use Rattle.writer.specs.Spans.{offsetAt, lengthAt, stringAt, stringsFrom, isSom
 use Rattle.writer.specs.Words.{packed}
 use Rattle.writer.proofs.WordLaws.{length-packed}
 use Rattle.reader.specs.Saveobj.{dimCount, dimsProduct, unitCount, unitsBefore, storedUnits, storedStrings, checkDims, decodePayload, decodedArray, isCanonicalPayload, joined, spansFrom}
-use Rattle.reader.specs.SaveobjStages.{countsOf, stringsReplyOf}
+use Rattle.reader.specs.Saveobj as saveobj
+use Rattle.reader.specs.SaveobjStages.{layoutOf, checkLayout, countsOf, stringsReplyOf, UnitsChecked}
 use Rattle.reader.specs.Units.{unitsIn, isPacked}
+use Rattle.reader.specs.declared.saveobj.LayoutReply.{LayoutReply}
+use Rattle.reader.specs.declared.saveobj.LayoutReply.the-variants as layout
 use Rattle.reader.specs.declared.saveobj.StringsReply.{StringsReply}
 use Rattle.reader.specs.declared.saveobj.StringsReply.the-variants as reply
 use Rattle.reader.proofs.HeaderLaws.{HeaderPassed, header-passed, productFits}
-use Rattle.reader.proofs.LengthLaws.{count-missing, count-given, units-next, units-most}
+use Rattle.reader.proofs.LengthLaws.{count-missing, count-given, units-most}
 use Rattle.reader.proofs.PackedLaws.{units-drop, units-append, repacked, padded}
-use Rattle.reader.proofs.PayloadLaws.{PayloadPassed, payload-passed, counts-are, error-is}
+use Rattle.reader.proofs.PayloadLaws.{PayloadPassed, strings-passed, payload-passed, LayoutPassed, layout-refused, laid-out, counts-are, error-is}
 use Rattle.reader.proofs.RoundTrip.{counts-at}
 use Rattle.reader.proofs.StringLaws.{length-stored, length-spans}
 use Rattle.reader.proofs.UnitLaws.{length-units, units-below}
@@ -315,79 +319,96 @@ same-test true b f g = sym (f refl)
 same-test false true f g = g refl
 same-test false false f g = refl
 
--- no length before string i marks a missing string, and this is their sum
-pub record Scanning (p : List ℕ) (base n units i : ℕ) : Type 0 where
-  pub decoded : Decoded p base n
-  pub at : units ≡ unitsBefore p base i
+-- a payload that passed 22 to 28, whose units fill its words; no length before string i marks a missing string
+pub record Scanning (p : List ℕ) (base n i : ℕ) : Type 0 where
+  pub layout : LayoutPassed p base n (unitsBefore p base n)
+  pub packed : isPacked p (base + n) (unitsBefore p base n) ≡ true
   pub bound : i ≤ n
   pub given : (k : ℕ) → k < i → getD p (base + k) 0 ≡ 2 ^ 64 - 1 → ⊥
 
-module _ (p : List ℕ) {x : StringsReply} (e : stringsReplyOf x ≡ mapResult countsOf (decodePayload p)) where
-  pub canonical-refused : {f : MatError} → x ≡ reply.Error f → false ≡ isCanonicalPayload p
+module _ (p : List ℕ) where
+  -- a payload in canonical form has strings
+  module _ {base n units : ℕ} (l : LayoutPassed p base n units) where
+    decoded-by : isOk (decodePayload p) ≡ true → Decoded p base n
+    decoded-by e = record {
+      header = l .header;
+      strings = strings-passed p base n (l .header) (l .checked) (sym (l .strings) ∙ is-values (decodePayload p) e);
+      passed = e;
+    }
+
+    parts : isCanonicalPayload p ≡ true → IsCanonical p base n
+    parts e = parts-of p base n (decoded-by (both p e .0)) (canonical-is p e)
+
+    never : (isCanonicalPayload p ≡ true → ⊥) → false ≡ isCanonicalPayload p
+    never f = same-test false (isCanonicalPayload p) (λ t. not-both t refl) (λ t. absurd (f t))
+
+  refused : {f : Failure} → decodePayload p ≡ error f → false ≡ isCanonicalPayload p
   unfolding isCanonicalPayload
-  canonical-refused g = rw (error-is (decodePayload p) (reply-is stringsReplyOf e g))
+  refused e = rw e
 
-  module _ {b n : ℕ} (g : x ≡ reply.Strings b n) where
-    found : Decoded p (2 + dimCount p) n
-    found =
-        let c = counts-are (decodePayload p) (reply-is stringsReplyOf e g) in
-        rw (sym (c .2)) (decodes p (ap isOk (c .0)))
+  module _ {x : LayoutReply} (e : layoutOf x ≡ checkLayout p) where
+    pub canonical-refused : {f : MatError} → x ≡ layout.Error f → false ≡ isCanonicalPayload p
+    canonical-refused g = refused (layout-refused p (reply-is layoutOf e g))
 
-    pub scan-dims : 1 < length p
-    scan-dims = omega (arith, found .header .inside)
+    module _ {base n units : ℕ} (g : x ≡ layout.Layout base n units) where
+      pub packed-inside : base + n ≤ length p
+      packed-inside = laid-out p e g .header .inside
 
-    module _ {d : ℕ} (q : d ≡ dimCount p) where
-      pub scan-base : 2 + d < 2 ^ 64
-      scan-base = omega (arith, found .header .inside, found .header .most)
+      pub packed-fits : units ≤ 4 * (length p - (base + n))
+      packed-fits = let l = laid-out p e g in omega (arith, l .sum, l .checked .units)
 
-      pub scan-start : Scanning p (2 + d) n 0 0
-      unfolding unitsBefore
-      scan-start = record { decoded = rw q found; at = refl; bound = omega arith; given = λ k l. absurd (omega arith) }
+      pub packed-start : base + n < 2 ^ 64
+      packed-start = let l = laid-out p e g in omega (arith, l .header)
 
-module _ {p : List ℕ} {base n units i : ℕ} (m : Scanning p base n units i) where
+      module _ {r : Bool} (q : r ≡ isPacked p (base + n) units) where
+        pub canonical-spare : not r ≡ true → false ≡ isCanonicalPayload p
+        unfolding isPacked
+        canonical-spare t =
+            let l = laid-out p e g in
+            never l (λ c. let i = parts l c in not-both (rw (eq-eqb _ _ (i .size), eq-eqb _ _ (i .padding))) (sym (rw (l .sum) at q) ∙ not-true r t))
+
+        pub scan-start : not r ≡ false → Scanning p base n 0
+        scan-start t =
+            let l = laid-out p e g in
+            record {
+              layout = rw (l .sum) at l;
+              packed = sym (rw (l .sum) at q) ∙ not-false r t;
+              bound = omega arith;
+              given = λ k h. absurd (omega arith);
+            }
+
+module _ {p : List ℕ} {base n i : ℕ} (m : Scanning p base n i) where
   module _ (h : i < n) where
+    pub scan-there : base + i < length p
+    scan-there = omega (arith, m .layout .header .inside)
+
     pub scan-stop : getD p (base + i) 0 ≡ 2 ^ 64 - 1 → false ≡ isCanonicalPayload p
-    scan-stop g = same-test false (isCanonicalPayload p) (λ t. not-both t refl) (λ t. absurd (parts-of p base n (m .decoded) (canonical-is p t) .given i h g))
+    scan-stop g = never p (m .layout) (λ c. parts p (m .layout) c .given i h g)
 
-    module _ (g : getD p (base + i) 0 ≡ 2 ^ 64 - 1 → ⊥) {count : ℕ} (c : count ≡ getD p (base + i) 0) where
-      counted : units + count ≡ unitsBefore p base (i + 1)
-      counted = omega (arith, m .at, units-next p base i, count-given p base i g c)
+    pub scan-turn : (getD p (base + i) 0 ≡ 2 ^ 64 - 1 → ⊥) → Scanning p base n (i + 1)
+    scan-turn g = record {
+      layout = m .layout;
+      packed = m .packed;
+      bound = omega arith;
+      given = λ k l. equal-or k i (λ z. rw z g) (λ z. m .given k (omega arith));
+    }
 
-      pub scan-units : units + count < 2 ^ 64
-      scan-units =
-          omega (arith, counted, units-most p base (i + 1) n (omega arith), m .decoded .strings .checked .units, m .decoded .header .most)
+  pub scan-checked : UnitsChecked p base n
+  scan-checked = m .layout .checked
 
-      pub scan-turn : Scanning p base n (units + count) (i + 1)
-      scan-turn = record {
-        decoded = m .decoded;
-        at = counted;
-        bound = omega arith;
-        given = λ k l. equal-or k i (λ z. rw z g) (λ z. m .given k (omega arith));
-      }
+  module _ {x : StringsReply} (e : stringsReplyOf x ≡ mapResult countsOf (saveobj.checkStrings p base n)) where
+    pub scan-unpaired : {f : MatError} → x ≡ reply.Error f → false ≡ isCanonicalPayload p
+    scan-unpaired g = refused p (m .layout .strings ∙ error-is (saveobj.checkStrings p base n) (reply-is stringsReplyOf e g))
 
-  module _ (h : n ≤ i) where
-    sum-is : units ≡ unitsBefore p base n
-    sum-is =
-        let z : i ≡ n = omega (arith, m .bound) in
-        rw z at (m .at)
-
-    pub scan-fits : units ≤ 4 * (length p - (base + n))
-    scan-fits = omega (arith, sum-is, m .decoded .strings .checked .units)
-
-    pub scan-last : ((k : ℕ) → getD p k 0 < 2 ^ 64) → {r : Bool} → r ≡ isPacked p (base + n) units → r ≡ isCanonicalPayload p
+    pub scan-last : n ≤ i → {b c : ℕ} → x ≡ reply.Strings b c → ((k : ℕ) → getD p k 0 < 2 ^ 64) → true ≡ isCanonicalPayload p
     unfolding isPacked
-    scan-last b e =
-        rw (e, sum-is)
-        (same-test (isPacked p (base + n) (unitsBefore p base n)) (isCanonicalPayload p)
-        (λ t.
-        let q = and-is _ _ t in
-        canonical-from b
+    scan-last h g b =
+        let q = and-is _ _ (m .packed) in
+        sym
+        (canonical-from b
         (record {
-          decoded = m .decoded;
+          decoded = decoded-by p (m .layout) (ap isOk (m .layout .strings ∙ counts-are (saveobj.checkStrings p base n) (reply-is stringsReplyOf e g) .0));
           given = λ k l. m .given k (omega arith);
           size = eqb-true _ _ (q .0);
           padding = eqb-true _ _ (q .1);
         }))
-        (λ t.
-        let c = parts-of p base n (m .decoded) (canonical-is p t) in
-        rw (eq-eqb _ _ (c .size), eq-eqb _ _ (c .padding))))

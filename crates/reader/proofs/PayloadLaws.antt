@@ -1,26 +1,30 @@
--- The outcomes of `measure_payload`, `put_payload` and `decode_string_saveobj`, and what a payload that passed its checks is.
+-- The outcomes of `read_layout`, `measure_payload`, `put_payload` and `decode_string_saveobj`, and what a payload that passed its checks is.
 -- Assumes nothing.
-use Prim.Native.Nat.{ℕ, _+_, _-_, _*_, _^_, _≤_, _<_, min}
+use Prim.Native.Nat.{ℕ, zero, suc, _+_, _-_, _*_, _^_, _≤_, _<_, min}
 use mathlib.Core.Path.{_≡_, refl, sym, ap, subst, _∙_}
+use mathlib.Core.Bool.{true, false}
 use mathlib.Core.List.{List}
 use mathlib.Core.Option.{some}
 use native.Mathlib.Nat.{zero-add}
+use native.Mathlib.Numerals.{add-one}
 use native.Mathlib.Omega.{arith}
 use borrow.Author.Tests.{le-leb, lt-leb, leb-true}
 use lib.Dec.{leb}
 use lib.ListN.{length}
 use Rattle.text.specs.Errors.{failureOf}
-use Rattle.text.specs.Result.{Result, ok, error, mapResult, checkEach, overwritten, valuesOf}
+use Rattle.text.specs.Result.{Result, ok, error, mapResult, checkEach, overwritten, valuesOf, _>>_, _>>=_}
 use Rattle.text.specs.Utf16.{textOf, theText}
 use Rattle.text.specs.declared.error.Failure.{Failure}
 use Rattle.text.specs.declared.error.MatError.{MatError}
 use Rattle.text.specs.declared.error.MatError.the-variants.{OutputTooShort}
 use Rattle.text.proofs.BufferLaws.{put-front}
-use Rattle.text.proofs.ResultLaws.{reply-is, seq-passed, bind-passed, checkEach-passed, check-is}
+use Rattle.text.proofs.ResultLaws.{reply-is, seq-passed, bind-passed, checkEach-passed, check-is, Checks, checks-start, checks-turn, checks-stop}
 use Rattle.reader.specs.Saveobj.{unitsBefore, Header, storedUnits, storedStrings, checkHeader, checkSum, checkLengths, checkStrings, decodePayload, joined, spansFrom, intoStrings}
-use Rattle.reader.specs.SaveobjStages.{numberOf, headerOf, Counts, countsOf, stringsReplyOf, UnitsChecked, measuredStrings, StringsFit, WritesStrings, origin, FitsAt, WritesAt, DecodesStrings}
+use Rattle.reader.specs.SaveobjStages.{numberOf, headerOf, Layout, layoutOf, checkLayout, Counts, countsOf, stringsReplyOf, UnitsChecked, StringsFit, WritesStrings, origin, FitsAt, WritesAt, DecodesStrings}
 use Rattle.reader.specs.declared.saveobj.HeaderReply.{HeaderReply}
 use Rattle.reader.specs.declared.saveobj.HeaderReply.the-variants as header
+use Rattle.reader.specs.declared.saveobj.LayoutReply.{LayoutReply}
+use Rattle.reader.specs.declared.saveobj.LayoutReply.the-variants as layout
 use Rattle.reader.specs.declared.saveobj.NumberReply.{NumberReply}
 use Rattle.reader.specs.declared.saveobj.NumberReply.the-variants as number
 use Rattle.reader.specs.declared.saveobj.Position.{Position}
@@ -51,7 +55,7 @@ module _ (payload : List ℕ) (base n : ℕ) (h : HeaderPassed payload base n) w
   checked-by : {sum : ℕ} → checkSum payload base n ≡ ok sum → sum ≤ 4 * (length payload - (base + n)) → UnitsChecked payload base n
   checked-by e l = record { lengths = h .inside; units = omega (arith, sum-passed payload base n e); most = h .most }
 
-  strings-passed : UnitsChecked payload base n → {strings : List (List ℕ)} → checkStrings payload base n ≡ ok strings → PayloadPassed payload base n strings
+  pub strings-passed : UnitsChecked payload base n → {strings : List (List ℕ)} → checkStrings payload base n ≡ ok strings → PayloadPassed payload base n strings
   unfolding checkStrings
   strings-passed u {strings} e =
       let p = seq-passed (checkEach 29 (isPaired payload base n) 0 n) _ e in
@@ -93,70 +97,119 @@ payload-most payload {strings} e =
       omega (arith, p .many, p .checked .lengths, p .checked .most),
     )
 
--- ---- the outcomes of `measure_payload`
-
--- the bytes of strings, and their number
-counted : (m : Result (List (List ℕ))) (n : ℕ) → ((ss : List (List ℕ)) → m ≡ ok ss → length ss ≡ n) → {b : ℕ} → mapResult (λ ss. length (joined ss)) m ≡ ok b
-    → _≡_ {A = Result Counts} (ok (record { bytes = b; strings = n })) (mapResult countsOf m)
-counted (ok ss) n f {b} e =
-    let l : length ss ≡ n = f ss refl in
-    let k : length (joined ss) ≡ b = cc in
-    rw (sym l, sym k)
-counted (error x) n f {b} e =
-    let z : _≡_ {A = ℕ} 0 1 = cc in
-    absurd (omega arith)
-
-failed : (m : Result (List (List ℕ))) {x : Failure} → mapResult (λ ss. length (joined ss)) m ≡ error x → error x ≡ mapResult countsOf m
-failed (ok ss) {x} e =
-    let z : _≡_ {A = ℕ} 0 1 = cc in
-    absurd (omega arith)
-failed (error y) {x} e =
-    let k : y ≡ x = cc in
-    rw (sym k)
+-- ---- the outcomes of `read_layout`
 
 module _ (payload : List ℕ) {x : HeaderReply} (e : headerOf x ≡ checkHeader payload) where
-  pub payload-header : {f : MatError} → x ≡ header.Error f → error (failureOf f) ≡ mapResult countsOf (decodePayload payload)
-  unfolding decodePayload
-  payload-header g = rw (reply-is headerOf e g)
+  pub layout-header : {f : MatError} → x ≡ header.Error f → error (failureOf f) ≡ checkLayout payload
+  unfolding checkLayout
+  layout-header g = rw (reply-is headerOf e g)
 
   module _ {base n : ℕ} (g : x ≡ header.Header base n) where
-    passed : HeaderPassed payload base n
-    passed = header-passed payload (reply-is headerOf e g)
-
     pub header-inside : base + n ≤ length payload
-    header-inside = passed .inside
+    header-inside = header-passed payload (reply-is headerOf e g) .inside
 
     pub header-fits : base + n < 2 ^ 64
-    header-fits = let p = passed in omega arith
+    header-fits = let p = header-passed payload (reply-is headerOf e g) in omega arith
 
     module _ {y : NumberReply} (s : numberOf y ≡ checkSum payload base n) where
-      pub payload-sum : {f : MatError} → y ≡ number.Error f → error (failureOf f) ≡ mapResult countsOf (decodePayload payload)
-      unfolding decodePayload checkLengths
-      payload-sum k = rw (reply-is headerOf e g) (rw (reply-is numberOf s k))
+      pub layout-sum : {f : MatError} → y ≡ number.Error f → error (failureOf f) ≡ checkLayout payload
+      unfolding checkLayout checkLengths
+      layout-sum k = rw (reply-is headerOf e g) (rw (reply-is numberOf s k))
 
       module _ {sum : ℕ} (k : y ≡ number.Number sum) where
-        pub payload-units : 4 * (length payload - (base + n)) < sum → error (record { number = 28; place = sum }) ≡ mapResult countsOf (decodePayload payload)
-        unfolding decodePayload checkLengths
-        payload-units l = rw (reply-is headerOf e g) (simp (reply-is numberOf s k, lt-leb sum (4 * (length payload - (base + n))) l))
+        pub layout-short : 4 * (length payload - (base + n)) < sum → error (record { number = 28; place = sum }) ≡ checkLayout payload
+        unfolding checkLayout checkLengths
+        layout-short l = rw (reply-is headerOf e g) (simp (reply-is numberOf s k, lt-leb sum (4 * (length payload - (base + n))) l))
 
-        module _ (l : sum ≤ 4 * (length payload - (base + n))) where
-          pub payload-checked : UnitsChecked payload base n
-          payload-checked = checked-by payload base n passed (reply-is numberOf s k) l
+        pub layout-whole : sum ≤ 4 * (length payload - (base + n)) → {units : ℕ} → units ≡ sum
+            → ok (record { base = base; strings = n; units = units }) ≡ checkLayout payload
+        unfolding checkLayout checkLengths
+        layout-whole l u =
+            rw (reply-is headerOf e g)
+            (simp (reply-is numberOf s k, le-leb sum (4 * (length payload - (base + n))) l) (rw (u, sum-passed payload base n (reply-is numberOf s k))))
 
-          strings-of : decodePayload payload ≡ checkStrings payload base n
-          unfolding decodePayload checkLengths
-          strings-of = rw (reply-is headerOf e g) (simp (reply-is numberOf s k, le-leb sum (4 * (length payload - (base + n))) l))
+pub ruleset layout-outcomes = (layout-header, layout-sum, layout-short, layout-whole)
 
-          module _ {z : NumberReply} (w : numberOf z ≡ measuredStrings payload base n) where
-            pub payload-unpaired : {f : MatError} → z ≡ number.Error f → error (failureOf f) ≡ mapResult countsOf (decodePayload payload)
-            payload-unpaired d = rw strings-of (failed (checkStrings payload base n) (reply-is numberOf w d))
+-- ---- 22 to 28, then 29
 
-            pub payload-measured : {b bytes : ℕ} → z ≡ number.Number b → bytes ≡ b → ok (record { bytes = bytes; strings = n }) ≡ mapResult countsOf (decodePayload payload)
-            payload-measured d q =
-                rw (strings-of, q)
-                (counted (checkStrings payload base n) n (λ ss t. strings-passed payload base n passed payload-checked t .many) (reply-is numberOf w d))
+then : {A B C : Type 0} (m : Result A) (g : A → Result (Unit {0})) (l : A → B) (f : B → Result C)
+    → (m >>= λ a. g a >> f (l a)) ≡ ((m >>= λ a. g a >> ok (l a)) >>= f)
+then (ok a) g l f = checked-then (g a)
+  where
+    checked-then : (n : Result (Unit {0})) → (n >> f (l a)) ≡ ((n >> ok (l a)) >>= f)
+    checked-then (ok u) = refl
+    checked-then (error x) = refl
+then (error x) g l f = refl
 
-pub ruleset measure-outcomes = (payload-header, payload-sum, payload-units, payload-unpaired, payload-measured)
+pub decode-layout : (payload : List ℕ) → decodePayload payload ≡ (checkLayout payload >>= λ l. checkStrings payload (l .base) (l .strings))
+unfolding checkLayout decodePayload
+decode-layout payload =
+    then (checkHeader payload) (λ h. checkLengths payload (h .base) (h .strings))
+    (λ h. record { base = h .base; strings = h .strings; units = unitsBefore payload (h .base) (h .strings) }) (λ l. checkStrings payload (l .base) (l .strings))
+
+-- a refusal by 22 to 28 is told, whatever the units are
+pub layout-refused : (payload : List ℕ) {f : Failure} → checkLayout payload ≡ error f → decodePayload payload ≡ error f
+layout-refused payload e = rw (decode-layout payload, e)
+
+-- the strings are what 29 makes of the rest
+pub record LayoutPassed (payload : List ℕ) (base n units : ℕ) : Type 0 where
+  pub header : HeaderPassed payload base n
+  pub checked : UnitsChecked payload base n
+  pub sum : units ≡ unitsBefore payload base n
+  pub strings : decodePayload payload ≡ checkStrings payload base n
+
+pub layout-passed : (payload : List ℕ) {l : Layout} → checkLayout payload ≡ ok l → LayoutPassed payload (l .base) (l .strings) (l .units)
+unfolding checkLayout
+layout-passed payload {l} e =
+    let p = bind-passed (checkHeader payload) _ e in
+    let h = p .0 in
+    let q = seq-passed (checkLengths payload (h .base) (h .strings)) _ (p .1 .1) in
+    let f = header-passed payload (p .1 .0) in
+    let z = q .1 .1 in
+    let w : _≡_ {A = Layout} (record { base = h .base; strings = h .strings; units = unitsBefore payload (h .base) (h .strings) }) l = cc in
+    record {
+      header = subst (λ (l : Layout). HeaderPassed payload (l .base) (l .strings)) w f;
+      checked = subst (λ (l : Layout). UnitsChecked payload (l .base) (l .strings)) w (units-passed payload (h .base) (h .strings) f (q .1 .0));
+      sum = subst (λ (l : Layout). l .units ≡ unitsBefore payload (l .base) (l .strings)) w refl;
+      strings = rw (decode-layout payload, e);
+    }
+
+-- ---- document 02, P4
+
+-- "A payload that fails 28 must still be told 28, though a lone surrogate stands before the shortage": the units are not asked about
+pub shortage-first : (payload : List ℕ) {h : Header} {sum : ℕ} → checkHeader payload ≡ ok h → checkSum payload (h .base) (h .strings) ≡ ok sum
+    → 4 * (length payload - (h .base + h .strings)) < sum → decodePayload payload ≡ error (record { number = 28; place = sum })
+unfolding checkLayout checkLengths
+shortage-first payload {h} {sum} e s l =
+    layout-refused payload (rw e (simp (s, lt-leb sum (4 * (length payload - (h .base + h .strings))) l)))
+
+-- "the first string with an unpaired surrogate", in a payload that passes 28
+pub unpaired-first : {payload : List ℕ} {base n units : ℕ} → LayoutPassed payload base n units → (i : ℕ) → i < n
+    → ((j : ℕ) → j < i → isPaired payload base n j ≡ true) → isPaired payload base n i ≡ false → decodePayload payload ≡ error (record { number = 29; place = i })
+unfolding checkStrings
+unpaired-first {payload} {base} {n} p i h f g =
+    rw (p .strings, checks-stop 29 (isPaired payload base n) 0 n (upto i (omega arith) f) h g)
+  where
+    upto : (k : ℕ) → k ≤ n → ((j : ℕ) → j < k → isPaired payload base n j ≡ true) → Checks 29 (isPaired payload base n) 0 n k
+    upto zero l f = checks-start 29 (isPaired payload base n) 0 n (omega arith)
+    upto (suc k) l f = rw add-one at (checks-turn 29 (isPaired payload base n) 0 n (upto k (omega arith) (λ j m. f j (omega arith))) (omega arith) (f k (omega arith)))
+
+-- ---- the outcomes of `measure_payload`
+
+module _ (payload : List ℕ) {x : LayoutReply} (e : layoutOf x ≡ checkLayout payload) where
+  pub measure-refused : {f : MatError} → x ≡ layout.Error f → error (failureOf f) ≡ mapResult countsOf (decodePayload payload)
+  measure-refused g = ap (mapResult countsOf) (sym (layout-refused payload (reply-is layoutOf e g)))
+
+  module _ {base n units : ℕ} (g : x ≡ layout.Layout base n units) where
+    pub laid-out : LayoutPassed payload base n units
+    laid-out = layout-passed payload (reply-is layoutOf e g)
+
+    pub measure-checked : UnitsChecked payload base n
+    measure-checked = laid-out .checked
+
+    pub measure-strings : (y : StringsReply) → stringsReplyOf y ≡ mapResult countsOf (checkStrings payload base n)
+        → stringsReplyOf y ≡ mapResult countsOf (decodePayload payload)
+    measure-strings y m = m ∙ ap (mapResult countsOf) (sym (laid-out .strings))
 
 -- ---- the outcomes of `put_payload`
 

@@ -1,29 +1,33 @@
 -- Strings in a payload, one after the other: the loops of `measure_strings` (check 29) and `put_strings`.
 -- Assumes nothing.
-use Prim.Native.Nat.{ℕ, zero, suc, _+_, _-_, _*_, _^_, _≤_, _<_}
+use Prim.Native.Nat.{ℕ, zero, suc, _+_, _-_, _*_, _/_, _^_, _≤_, _<_}
 use mathlib.Core.Path.{_≡_, refl, sym, ap, subst, _∙_}
-use mathlib.Core.Bool.{Bool, true, false}
+use mathlib.Core.Bool.{Bool, true, false, not, _&&_}
 use mathlib.Core.List.{List, [], _∷_, _++_, append-assoc, flatMap}
-use mathlib.Core.Option.{some, Option·map}
+use mathlib.Core.Option.{some}
 use native.Mathlib.Nat.{add-zero}
 use native.Mathlib.Numerals.{add-one}
 use native.Mathlib.Omega.{arith}
+use borrow.Author.Tests.{not-true, not-false}
 use lib.ListN.{length, take, set, length-set, length-append}
 use Rattle.text.specs.Buffer.{put, Puts}
-use Rattle.text.specs.Result.{ok, error}
-use Rattle.text.specs.Utf16.{textOf, theText}
+use Rattle.text.specs.Result.{ok, error, mapResult}
+use Rattle.text.specs.Unicode.{isHighSurrogate, isLowSurrogate, isSurrogate, utf8}
+use Rattle.text.specs.Utf16.{pairValue, unitStepAt, textOf, theText}
+use Rattle.text.specs.declared.utf16.UnitStep.the-variants.{Scalar, Unpaired}
 use Rattle.text.proofs.BufferLaws.{SoFar, Splits, fits-next, goes-on, fits-from, begins-from, ends-from}
-use Rattle.text.proofs.ByteLaws.{stores}
+use Rattle.text.proofs.ByteLaws.{stores, size-1, size-2, size-3, size-4}
+use Rattle.text.proofs.DecodeLaws as decoding
 use Rattle.text.proofs.ResultLaws.{Checks, checks-start, checks-turn, checks-stop, checks-last}
+use Rattle.text.proofs.ScalarLaws.{gap-below}
+use Rattle.text.proofs.TestLaws.{and-is, within-is}
 use Rattle.writer.specs.Spans.{isSome}
 use Rattle.reader.specs.Saveobj.{unitCount, unitsBefore, storedUnits, storedStrings, checkStrings, joined, spansFrom}
-use Rattle.reader.specs.SaveobjStages.{UnitsChecked, measuredStrings, StringsFit, WritesStrings}
-use Rattle.reader.specs.Units.{unitsIn, UnitsInside, UnitsFit, lengthOf}
-use Rattle.reader.specs.declared.units.TextLength.{TextLength}
-use Rattle.reader.specs.declared.units.TextLength.the-variants as textLength
+use Rattle.reader.specs.SaveobjStages.{countsOf, UnitsChecked, StringsFit, WritesStrings}
+use Rattle.reader.specs.Units.{unitAt, unitsIn, UnitsInside, UnitsFit}
 use Rattle.reader.proofs.LengthLaws.{units-next, units-most}
-use Rattle.writer.proofs.SpanLaws.{some-is, counted-some, counted-none}
-use Rattle.reader.proofs.UnitLaws.{text-most}
+use Rattle.writer.proofs.SpanLaws.{counted-some, counted-none}
+use Rattle.reader.proofs.UnitLaws.{length-units, reads-units, step-single, step-last, step-pair, step-unpaired, text-most}
 
 -- ---- strings in a row
 
@@ -108,11 +112,24 @@ abbrev pub isPaired : List ℕ → ℕ → ℕ → ℕ → Bool
 isPaired payload base n i = isSome (textOf (storedUnits payload base n i))
 
 -- 29 holds of the strings before string i, and these are their bytes and units
-pub record Measuring (payload : List ℕ) (base n bytes unit i : ℕ) : Type 0 where
-  pub at : unit ≡ unitsBefore payload base i
-  pub most : bytes ≤ 3 * unit
+pub record Measuring (payload : List ℕ) (base n bytes k i : ℕ) : Type 0 where
+  pub at : k ≡ unitsBefore payload base i
+  pub most : bytes ≤ 3 * k
   pub sized : bytes + length (joined (left payload base n i)) ≡ length (joined (storedStrings payload base n 0 n))
   pub checks : Checks 29 (isPaired payload base n) 0 n i
+
+-- and of string i, which ends before unit end, the units before unit k are measured: j of them, with more bytes
+pub record Within (payload : List ℕ) (base n bytes k i end : ℕ) : Type 0 where
+  pub before : ℕ
+  pub more : ℕ
+  pub j : ℕ
+  pub strings : Measuring payload base n before (unitsBefore payload base i) i
+  pub here : i < n
+  pub units : UnitsInside payload (base + n) (unitsBefore payload base i) (unitCount payload base i)
+  pub bytes-are : bytes ≡ before + more
+  pub at : k ≡ unitsBefore payload base i + j
+  pub last : end ≡ unitsBefore payload base i + unitCount payload base i
+  pub text : decoding.Measuring (storedUnits payload base n i) more j
 
 module _ (payload : List ℕ) (base n : ℕ) where
   pub measure-start : Measuring payload base n 0 0 0
@@ -124,54 +141,140 @@ module _ (payload : List ℕ) (base n : ℕ) where
     checks = checks-start 29 (isPaired payload base n) 0 n (omega arith);
   }
 
-  module _ {bytes unit i : ℕ} (u : UnitsChecked payload base n) (m : Measuring payload base n bytes unit i) where
-    module _ {count : ℕ} (h : i < n) (c : count ≡ unitCount payload base i) where
-      pub measure-inside : UnitsInside payload (base + n) unit count
-      measure-inside = units-inside payload base n u (m .at) h c
+  module _ {bytes k i count : ℕ} (u : UnitsChecked payload base n) (m : Measuring payload base n bytes k i) (h : i < n) (c : count ≡ unitCount payload base i) where
+    pub string-end : k + count < 2 ^ 64
+    string-end = let i = units-inside payload base n u (m .at) h c in omega arith
 
-      pub measure-unit : unit + count < 2 ^ 64
-      measure-unit = let i = measure-inside in omega arith
+    pub string-start : Within payload base n bytes k i (k + count)
+    string-start = record {
+      before = bytes;
+      more = 0;
+      j = 0;
+      strings = rw (sym (m .at)) m;
+      here = h;
+      units = units-inside payload base n u refl h refl;
+      bytes-are = omega arith;
+      at = omega (arith, m .at);
+      last = omega (arith, m .at, c);
+      text = decoding.measure-start (reads-units payload (base + n) (unitsBefore payload base i) (unitCount payload base i));
+    }
 
-      module _ {x : TextLength} (e : lengthOf x ≡ Option·map length (textOf (unitsIn payload (base + n) unit count))) where
-        module _ {more : ℕ} (g : x ≡ textLength.Bytes more) where
-          counted : (isSome (textOf (unitsIn payload (base + n) unit count)) ≡ true) × (more ≡ length (theText (unitsIn payload (base + n) unit count)))
-          counted = counted-some (textOf (unitsIn payload (base + n) unit count)) (sym (ap lengthOf g) ∙ e)
-
-          pub measure-turn : Measuring payload base n (bytes + more) (unit + count) (i + 1)
-          measure-turn =
-              let s : List ℕ = theText (storedUnits payload base n i) in
-              let w : length (theText (unitsIn payload (base + n) unit count)) ≡ length s = ap (λ (us : List ℕ). length (theText us)) (units-are payload base n u (m .at) h c) in
-              let l = ap (λ (ss : List (List ℕ)). length (joined ss)) (left-next payload base n h) in
-              record {
-                at = omega (arith, m .at, units-next payload base i);
-                most =
-                    omega
-                    (arith, m .most, counted .1, text-most payload (base + n) unit count (some-is (textOf (unitsIn payload (base + n) unit count)) (counted .0)));
-                sized =
-                    omega
-                    (arith, m .sized, l, w, counted .1, ap length (joined-cons s (left payload base n (i + 1))), length-append s (joined (left payload base n (i + 1))));
-                checks =
-                    checks-turn 29 (isPaired payload base n) 0 n (m .checks) h (rw (units-are payload base n u (m .at) h c) at (counted .0));
-              }
-
-          pub measure-bytes : bytes + more < 2 ^ 64
-          measure-bytes =
-              let i = measure-inside in
-              omega (arith, measure-turn .most)
-
-        pub measure-stop : x ≡ textLength.Unpaired → error (record { number = 29; place = i }) ≡ measuredStrings payload base n
-        unfolding checkStrings
-        measure-stop g =
-            let f : isSome (textOf (unitsIn payload (base + n) unit count)) ≡ false =
-            ap isSome (counted-none (textOf (unitsIn payload (base + n) unit count)) (sym (ap lengthOf g) ∙ e)) in
-            rw (checks-stop 29 (isPaired payload base n) 0 n (m .checks) h (rw (units-are payload base n u (m .at) h c) at f))
-
-  pub measure-last : {bytes unit i : ℕ} → Measuring payload base n bytes unit i → n ≤ i → ok bytes ≡ measuredStrings payload base n
+  pub measure-last : {bytes k i : ℕ} → Measuring payload base n bytes k i → n ≤ i → ok (record { bytes = bytes; strings = n }) ≡ mapResult countsOf (checkStrings payload base n)
   unfolding checkStrings flatMap
-  measure-last {bytes} {unit} {i} m h =
-      let z : bytes ≡ length (joined (storedStrings payload base n 0 n)) =
+  measure-last {bytes} {k} {i} m h =
+      let b : bytes ≡ length (joined (storedStrings payload base n 0 n)) =
       omega (arith, m .sized, ap (λ (ss : List (List ℕ)). length (joined ss)) (left-none payload base n h)) in
-      rw (checks-last 29 (isPaired payload base n) 0 n (m .checks) h) (ap ok z)
+      rw (checks-last 29 (isPaired payload base n) 0 n (m .checks) h, b) (rw (length-stored payload base n 0 n))
+
+-- the units of one string
+module _ {payload : List ℕ} {base n bytes k i end : ℕ} (w : Within payload base n bytes k i end) where
+  abbrev us : List ℕ
+  us = storedUnits payload base n i
+
+  many : length us ≡ unitCount payload base i
+  many = length-units payload (base + n) (unitsBefore payload base i) (unitCount payload base i)
+
+  -- at most three for a unit
+  pub bytes-fit : bytes < 2 ^ 64
+  bytes-fit = omega (arith, w .units .there, w .units .most, w .strings .most, w .text .most, w .bytes-are, w .text .reading .inside, many)
+
+  module _ (l : k < end) where
+    inside : w .j < unitCount payload base i
+    inside = omega (arith, w .at, w .last)
+
+    pub unit-there : base + n + k / 4 < length payload
+    unit-there = omega (arith, w .units .there, w .at, inside)
+
+    -- one step
+    goes : {v c size k' : ℕ} → Scalar v c ≡ unitStepAt us (w .j) → size ≡ length (utf8 v) → size ≤ 4 → k' ≡ k + c → Within payload base n (bytes + size) k' i end
+    goes {v} {c} {size} {k'} s z f e = record {
+      before = w .before;
+      more = w .more + size;
+      j = w .j + c;
+      strings = w .strings;
+      here = w .here;
+      units = w .units;
+      bytes-are = omega (arith, w .bytes-are);
+      at = omega (arith, w .at);
+      last = w .last;
+      text = decoding.measure-size (w .text) (omega (arith, many, inside)) s refl (z, f);
+    }
+
+    stops : Unpaired ≡ unitStepAt us (w .j) → error (record { number = 29; place = i }) ≡ mapResult countsOf (checkStrings payload base n)
+    unfolding checkStrings
+    stops s =
+        let f = counted-none (textOf us) (decoding.measure-stop (w .text) (omega (arith, many, inside)) s refl) in
+        rw (checks-stop 29 (isPaired payload base n) 0 n (w .strings .checks) (w .here) (ap isSome f))
+
+    module _ {u : ℕ} (e : u ≡ unitAt payload (base + n) k) where
+      is-unit : u ≡ unitAt payload (base + n) (unitsBefore payload base i + w .j)
+      is-unit = e ∙ ap (unitAt payload (base + n)) (w .at)
+
+      single : isSurrogate u ≡ false → Scalar u 1 ≡ unitStepAt us (w .j)
+      single g = step-single payload (base + n) (unitsBefore payload base i) (unitCount payload base i) (w .j) inside is-unit g
+
+      pub measure-1 : u < 0x80 → Within payload base n (bytes + 1) (k + 1) i end
+      measure-1 h = goes (single (gap-below u (omega arith))) (size-1 u h) (omega arith) refl
+
+      pub measure-2 : 0x80 ≤ u → u < 0x800 → Within payload base n (bytes + 2) (k + 1) i end
+      measure-2 f h = goes (single (gap-below u (omega arith))) (size-2 u f h) (omega arith) refl
+
+      module _ {r : Bool} (g : r ≡ isSurrogate u) where
+        pub measure-3 : not r ≡ true → 0x800 ≤ u → u < 2 ^ 16 → Within payload base n (bytes + 3) (k + 1) i end
+        measure-3 t f b = goes (single (sym g ∙ not-true r t)) (size-3 u f b) (omega arith) refl
+
+        module _ (t : not r ≡ false) where
+          surrogate : isSurrogate u ≡ true
+          surrogate = sym g ∙ not-false r t
+
+          pub measure-alone : k + 1 ≡ end → error (record { number = 29; place = i }) ≡ mapResult countsOf (checkStrings payload base n)
+          measure-alone h =
+              stops (step-last payload (base + n) (unitsBefore payload base i) (unitCount payload base i) (w .j) inside is-unit surrogate (omega (arith, w .at, w .last)))
+
+          module _ (h : k + 1 ≡ end → ⊥) where
+            two : 2 ≤ unitCount payload base i - w .j
+            two = omega (arith, w .at, w .last, h)
+
+            pub next-there : base + n + (k + 1) / 4 < length payload
+            next-there = omega (arith, w .units .there, w .at, two)
+
+            module _ {v : ℕ} (d : v ≡ unitAt payload (base + n) (k + 1)) {p : Bool} (q : p ≡ (isHighSurrogate u && isLowSurrogate v)) where
+              is-next : v ≡ unitAt payload (base + n) (unitsBefore payload base i + (w .j + 1))
+              is-next =
+                  let z : k + 1 ≡ unitsBefore payload base i + (w .j + 1) = omega (arith, w .at) in
+                  d ∙ ap (unitAt payload (base + n)) z
+
+              pub measure-4 : not p ≡ false → Within payload base n (bytes + 4) (k + 1 + 1) i end
+              measure-4 y =
+                  let h = sym q ∙ not-false p y in
+                  let x = and-is (isHighSurrogate u) (isLowSurrogate v) h in
+                  let a = within-is 0xD800 0xDBFF u (x .0) in
+                  let s =
+                  step-pair payload (base + n) (unitsBefore payload base i) (unitCount payload base i) (w .j) inside is-unit surrogate two is-next h in
+                  goes s (size-4 (pairValue u v) (omega arith)) (omega arith) (omega arith)
+
+              pub measure-unpaired : not p ≡ true → error (record { number = 29; place = i }) ≡ mapResult countsOf (checkStrings payload base n)
+              measure-unpaired y =
+                  stops
+                  (step-unpaired payload (base + n) (unitsBefore payload base i) (unitCount payload base i) (w .j) inside is-unit surrogate two is-next (sym q ∙ not-true p y))
+
+  -- all of them
+  pub string-last : end ≤ k → Measuring payload base n bytes k (i + 1)
+  string-last h =
+      let s : List ℕ = theText us in
+      let c = counted-some (textOf us) (decoding.measure-last (w .text) (omega (arith, many, w .at, w .last))) in
+      let z : w .j ≡ unitCount payload base i = omega (arith, w .text .reading .inside, many, w .at, w .last) in
+      let l = ap (λ (ss : List (List ℕ)). length (joined ss)) (left-next payload base n (w .here)) in
+      record {
+        at = omega (arith, w .at, z, units-next payload base i);
+        most = omega (arith, w .strings .most, w .text .most, w .bytes-are, w .at);
+        sized =
+            omega
+            (arith, w .strings .sized, w .bytes-are, l, c .1, ap length (joined-cons s (left payload base n (i + 1))), length-append s (joined (left payload base n (i + 1))));
+        checks = checks-turn 29 (isPaired payload base n) 0 n (w .strings .checks) (w .here) (c .0);
+      }
+
+pub ruleset measures = (measure-1, measure-2, measure-3, measure-4, measure-alone, measure-unpaired)
 
 -- ---- writing
 

@@ -1,7 +1,7 @@
--- Code units in words: what `unit_at` and `step_at` read, the longest text of units, and whether they fill the words.
+-- Code units in words: the steps of decoding them, the longest text of units, and whether they fill the words.
 -- Assumes nothing.
-use mathlib.Core.Path.{_≡_, refl, _∙_, ap}
-use mathlib.Core.Bool.{Bool, true, false}
+use mathlib.Core.Path.{_≡_, refl, sym, ap}
+use mathlib.Core.Bool.{Bool, true, false, _&&_, and-false}
 use mathlib.Core.List.{List, [], _∷_}
 use mathlib.Core.Option.{some}
 use Prim.Native.Nat.{ℕ, zero, suc, _+_, _-_, _*_, _/_, _%_, _^_, _≤_, _<_}
@@ -11,7 +11,6 @@ use lib.Dec.{ltb, eqb}
 use lib.ListN.{length, getD, List·getD-eq-default}
 use Rattle.text.specs.Unicode.{Below, isHighSurrogate, isLowSurrogate, isSurrogate, utf8s}
 use Rattle.text.specs.Utf16.{pairValue, unitStep, unitStepAt, scalars16, textOf}
-use Rattle.text.specs.declared.utf16.UnitStep.{UnitStep}
 use Rattle.text.specs.declared.utf16.UnitStep.the-variants.{Scalar, Unpaired}
 use Rattle.text.proofs.DecodeLaws.{Reading, reads-start}
 use Rattle.text.proofs.ScalarLaws.{gap-below, bytes-le}
@@ -64,7 +63,7 @@ pair-by us i true true false g ea eb ec never = absurd (never (simp (g, ea, eb, 
 pair-by us i true false c g ea eb ec never = absurd (never (simp (g, ea, eb)))
 pair-by us i false b c g ea eb ec never = absurd (never (simp (g, ea)))
 
--- ---- the returns of `step_at`
+-- ---- one step of decoding at index i of n units, by the unit there and the one after it
 
 module _ (w : List ℕ) (first k n i : ℕ) {u : ℕ} (h : i < n) (eu : u ≡ unitAt w first (k + i)) where
   -- no surrogate: the unit alone
@@ -75,22 +74,27 @@ module _ (w : List ℕ) (first k n i : ℕ) {u : ℕ} (h : i < n) (eu : u ≡ un
   pub step-one : u < 0xD800 → Scalar u 1 ≡ unitStepAt (unitsIn w first k n) i
   step-one l = step-single (gap-below u l)
 
-  pub step-last : n - i < 2 → {x : UnitStep} → x ≡ unitStep u 0 false → x ≡ unitStepAt (unitsIn w first k n) i
-  step-last l e =
-      let m = length-units w first k n in
-      e
-      ∙ rw (
-        unit-of w first k n i h,
-        List·getD-eq-default (unitsIn w first k n) 0 {n = i + 1} (omega arith),
-        le-ltb (i + 1) (length (unitsIn w first k n)) (omega arith),
-        eu,
-      )
+  module _ (g : isSurrogate u ≡ true) where
+    -- the last unit
+    pub step-last : n - i < 2 → Unpaired ≡ unitStepAt (unitsIn w first k n) i
+    unfolding unitStep
+    step-last l =
+        let m = length-units w first k n in
+        rw (unit-of w first k n i h, ← eu, le-ltb (i + 1) (length (unitsIn w first k n)) (omega arith)) (simp (g, and-false))
 
-  pub step-more : 2 ≤ n - i → {v : ℕ} → v ≡ unitAt w first (k + (i + 1)) → {x : UnitStep} → x ≡ unitStep u v true → x ≡ unitStepAt (unitsIn w first k n) i
-  step-more l ev e =
-      let m = length-units w first k n in
-      e
-      ∙ rw (unit-of w first k n i h, unit-of w first k n (i + 1) (omega arith), lt-ltb (i + 1) (length (unitsIn w first k n)) (omega arith), eu, ev)
+    module _ (l : 2 ≤ n - i) {v : ℕ} (ev : v ≡ unitAt w first (k + (i + 1))) where
+      step-more : unitStep u v true ≡ unitStepAt (unitsIn w first k n) i
+      step-more =
+          let m = length-units w first k n in
+          rw (unit-of w first k n i h, unit-of w first k n (i + 1) (omega arith), lt-ltb (i + 1) (length (unitsIn w first k n)) (omega arith), eu, ev)
+
+      pub step-pair : (isHighSurrogate u && isLowSurrogate v) ≡ true → Scalar (pairValue u v) 2 ≡ unitStepAt (unitsIn w first k n) i
+      unfolding unitStep
+      step-pair p = rw (sym step-more) (simp (g, p))
+
+      pub step-unpaired : (isHighSurrogate u && isLowSurrogate v) ≡ false → Unpaired ≡ unitStepAt (unitsIn w first k n) i
+      unfolding unitStep
+      step-unpaired p = rw (sym step-more) (simp (g, p))
 
 -- a text has at most three bytes a unit
 pub text-most : (w : List ℕ) (first k n : ℕ) {t : List ℕ} → textOf (unitsIn w first k n) ≡ some t → length t ≤ 3 * n

@@ -7,16 +7,18 @@ use mathlib.Core.Option.{some}
 use lib.ListN.{length}
 use Rattle.text.specs.Buffer.{put}
 use Rattle.text.specs.Errors.{failureOf}
-use Rattle.text.specs.Result.{Result, ok, error, mapResult, valuesOf, overwritten}
+use Rattle.text.specs.Result.{Result, ok, error, mapResult, valuesOf, overwritten, _>>_, _>>=_}
 use Rattle.text.specs.Utf16.{textOf, theText}
 use Rattle.reader.specs.declared.saveobj.NumberReply.{NumberReply}
 use Rattle.reader.specs.declared.saveobj.NumberReply.the-variants as number
 use Rattle.reader.specs.declared.saveobj.HeaderReply.{HeaderReply}
 use Rattle.reader.specs.declared.saveobj.HeaderReply.the-variants as header
+use Rattle.reader.specs.declared.saveobj.LayoutReply.{LayoutReply}
+use Rattle.reader.specs.declared.saveobj.LayoutReply.the-variants as layout
 use Rattle.reader.specs.declared.saveobj.StringsReply.{StringsReply}
 use Rattle.reader.specs.declared.saveobj.StringsReply.the-variants as strings
 use Rattle.reader.specs.declared.saveobj.Position.{Position}
-use Rattle.reader.specs.Saveobj.{Header, unitsBefore, storedUnits, storedStrings, checkStrings, joined, spansFrom, intoStrings}
+use Rattle.reader.specs.Saveobj.{Header, unitsBefore, storedUnits, storedStrings, checkHeader, checkLengths, joined, spansFrom, intoStrings}
 
 -- ---- replies
 
@@ -29,6 +31,17 @@ numberOf (number.Error e) = error (failureOf e)
 abbrev pub headerOf : HeaderReply → Result Header
 headerOf (header.Header base n) = ok (record { base = base; strings = n })
 headerOf (header.Error e) = error (failureOf e)
+
+-- a header, and the number of code units
+pub record Layout : Type 0 where
+  pub base : ℕ
+  pub strings : ℕ
+  pub units : ℕ
+
+-- those of a payload that passed 22 to 28, or the refusal
+abbrev pub layoutOf : LayoutReply → Result Layout
+layoutOf (layout.Layout base n units) = ok (record { base = base; strings = n; units = units })
+layoutOf (layout.Error e) = error (failureOf e)
 
 -- "text bytes and number of strings"
 pub record Counts : Type 0 where
@@ -46,15 +59,18 @@ stringsReplyOf (strings.Error e) = error (failureOf e)
 
 -- ---- stages
 
+-- 22 to 28
+unfoldable pub checkLayout : List ℕ → Result Layout
+checkLayout payload = do
+  header ← checkHeader payload
+  checkLengths payload (header .base) (header .strings)
+  ok (record { base = header .base; strings = header .strings; units = unitsBefore payload (header .base) (header .strings) })
+
 -- 22 to 28 hold of a payload of n strings whose lengths begin at word base
 pub record UnitsChecked (payload : List ℕ) (base n : ℕ) : Type 0 where
   pub lengths : base + n ≤ length payload
   pub units : unitsBefore payload base n ≤ 4 * (length payload - (base + n))
   pub most : length payload ≤ 2097152
-
--- the bytes of n strings, or 29
-abbrev pub measuredStrings : List ℕ → ℕ → ℕ → Result ℕ
-measuredStrings payload base n = mapResult (λ ss. length (joined ss)) (checkStrings payload base n)
 
 -- 29 holds too, and there is room for the strings from byte `byte` on, and for their spans from span `index` on
 pub record StringsFit (payload : List ℕ) (base n byte textRoom index spanRoom : ℕ) : Type 0 where

@@ -1,15 +1,13 @@
 -- UTF-16 code units in words of 64 bits.
 -- Assumes nothing.
-use Prim.Native.Nat.{ℕ, zero, suc, _+_, _-_, _*_, _/_, _%_, _^_, _≤_}
+use Prim.Native.Nat.{ℕ, zero, suc, _+_, _-_, _*_, _/_, _%_, _^_, _≤_, _<_}
 use mathlib.Core.Path.{_≡_}
 use mathlib.Core.Bool.{Bool, _&&_}
 use mathlib.Core.List.{List, [], _∷_}
-use mathlib.Core.Option.{Option, some, none}
+use mathlib.Core.Option.{some}
 use lib.Dec.{eqb}
 use lib.ListN.{length, getD}
 use Rattle.text.specs.Utf16.{textOf, theText}
-use Rattle.reader.specs.declared.units.TextLength.{TextLength}
-use Rattle.reader.specs.declared.units.TextLength.the-variants as textLength
 
 -- "units four to a word, low 16 bits first": unit k of the words from index first on
 unfoldable pub unitAt : List ℕ → ℕ → ℕ → ℕ
@@ -35,6 +33,17 @@ pub record UnitsFit (words : List ℕ) (first k n at room : ℕ) : Type 0 where
   pub is-text : textOf (unitsIn words first k n) ≡ some (theText (unitsIn words first k n))
   pub fits : at + length (theText (unitsIn words first k n)) ≤ room
 
+-- a unit whose text has two bytes, and from index at on there is room for them
+pub record TwoFit (unit at room : ℕ) : Type 0 where
+  pub least : 0x80 ≤ unit
+  pub most : unit < 0x800
+  pub fits : at + 2 ≤ room
+
+-- the same for three
+pub record ThreeFit (unit at room : ℕ) : Type 0 where
+  pub least : 0x800 ≤ unit
+  pub fits : at + 3 ≤ room
+
 -- a surrogate pair, and from index at on there is room for its four bytes
 pub record PairFits (high low at room : ℕ) : Type 0 where
   pub high-from : 0xD800 ≤ high
@@ -42,8 +51,3 @@ pub record PairFits (high low at room : ℕ) : Type 0 where
   pub low-from : 0xDC00 ≤ low
   pub low-to : low ≤ 0xDFFF
   pub fits : at + 4 ≤ room
-
--- the length of the text of code units, where there is one
-abbrev pub lengthOf : TextLength → Option ℕ
-lengthOf (textLength.Bytes n) = some n
-lengthOf textLength.Unpaired = none

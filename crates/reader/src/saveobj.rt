@@ -1,8 +1,9 @@
 // Saveobj payloads of string arrays, as `decode_string_saveobj` of `src/mat/de/mcos_reader.rs` of the Rust reads them.
-use crate::units::TextLength;
 use crate::units::is_packed;
+use crate::units::is_pair;
+use crate::units::is_surrogate;
 use crate::units::put_text;
-use crate::units::text_length;
+use crate::units::unit_at;
 use text::convert::product_fits;
 use text::convert::to_usize;
 use text::error::MatError;
@@ -12,8 +13,8 @@ ghost use mathlib.Core.Path.{_≡_};
 ghost use Prim.Native.Nat.{_+_, _≤_, _<_};
 ghost use lib.ListN.{length};
 ghost use Rattle.text.specs.Result.{mapResult};
-ghost use Rattle.reader.specs.Saveobj.{unitCount, storedStrings, checkDims, checkHeader, checkSum, decodePayload, isCanonicalPayload};
-ghost use Rattle.reader.specs.SaveobjStages.{numberOf, headerOf, countsOf, stringsReplyOf, measuredStrings, UnitsChecked, StringsFit, WritesStrings, FitsAt, WritesAt, DecodesStrings};
+ghost use Rattle.reader.specs.Saveobj.{unitCount, storedStrings, checkDims, checkHeader, checkSum, checkStrings, decodePayload, isCanonicalPayload};
+ghost use Rattle.reader.specs.SaveobjStages.{numberOf, headerOf, layoutOf, checkLayout, countsOf, stringsReplyOf, UnitsChecked, StringsFit, WritesStrings, FitsAt, WritesAt, DecodesStrings};
 
 // The length that marks a missing string.
 const MISSING: u64 = 0xFFFF_FFFF_FFFF_FFFF;
@@ -107,29 +108,37 @@ fn sum_lengths(payload: &[u64], base: usize, n: usize) -> NumberReply
     NumberReply::Number(sum as u64)
 }
 
-// Check 29: the bytes of n strings, in one walk over their units.
-fn measure_strings(payload: &[u64], base: usize, n: usize) -> NumberReply
-    requires { ⌜ UnitsChecked (now payload) base n ⌝ }
-    ensures { λ r. ⌜ numberOf r ≡ measuredStrings (now (payload .entry)) base n ⌝ }
+// The index of the first length, the number of strings and that of their code units, or the refusal.
+pub(crate) enum LayoutReply {
+    Layout {
+        base: usize,
+        strings: usize,
+        units: usize,
+    },
+    Error(MatError),
+}
+
+// Checks 22 to 28.
+fn read_layout(payload: &[u64]) -> LayoutReply
+    ensures { λ r. ⌜ layoutOf r ≡ checkLayout (now (payload .entry)) ⌝ }
 {
-    let first = base + n;
-    let mut bytes: usize = 0;
-    let mut unit: usize = 0;
-    let mut i: usize = 0;
-    while i < n {
-        let count = unit_count(payload, base, i);
-        match text_length(payload, first, unit, count) {
-            TextLength::Bytes(more) => {
-                bytes += more;
+    match read_header(payload) {
+        HeaderReply::Header { base, strings } => match sum_lengths(payload, base, strings) {
+            NumberReply::Number(sum) => {
+                let room = 4 * (payload.len() - (base + strings));
+                if (room as u64) < sum {
+                    return LayoutReply::Error(MatError::PayloadUnitsTruncated(sum));
+                }
+                LayoutReply::Layout {
+                    base,
+                    strings,
+                    units: to_usize(sum),
+                }
             }
-            TextLength::Unpaired => {
-                return NumberReply::Error(MatError::UnpairedSurrogate(i as u64));
-            }
-        }
-        unit += count;
-        i += 1;
+            NumberReply::Error(e) => LayoutReply::Error(e),
+        },
+        HeaderReply::Error(e) => LayoutReply::Error(e),
     }
-    NumberReply::Number(bytes as u64)
 }
 
 // The bytes of text and the number of strings, or the refusal.
@@ -138,28 +147,58 @@ pub enum StringsReply {
     Error(MatError),
 }
 
+// Check 29 for n strings that passed 28, and what they need: the bytes of their text and their number, or the first string with a surrogate
+// that has no partner. A missing string has no units, and counts in the index. No other walk over a payload looks at pairing.
+fn measure_strings(payload: &[u64], base: usize, n: usize) -> StringsReply
+    requires { ⌜ UnitsChecked (now payload) base n ⌝ }
+    ensures { λ r. ⌜ stringsReplyOf r ≡ mapResult countsOf (checkStrings (now (payload .entry)) base n) ⌝ }
+{
+    let first = base + n;
+    let mut bytes: usize = 0;
+    let mut k: usize = 0;
+    let mut i: usize = 0;
+    while i < n {
+        let end = k + unit_count(payload, base, i);
+        while k < end {
+            let unit = unit_at(payload, first, k);
+            k += 1;
+            if unit < 0x80 {
+                bytes += 1;
+                continue;
+            }
+            if unit < 0x800 {
+                bytes += 2;
+                continue;
+            }
+            if !is_surrogate(unit) {
+                bytes += 3;
+                continue;
+            }
+            if k == end {
+                return StringsReply::Error(MatError::UnpairedSurrogate(i as u64));
+            }
+            if !is_pair(unit, unit_at(payload, first, k)) {
+                return StringsReply::Error(MatError::UnpairedSurrogate(i as u64));
+            }
+            bytes += 4;
+            k += 1;
+        }
+        i += 1;
+    }
+    StringsReply::Strings { bytes, strings: n }
+}
+
 // Checks 22 to 29, and what a payload's strings need.
 pub(crate) fn measure_payload(payload: &[u64]) -> StringsReply
     ensures { λ r. ⌜ stringsReplyOf r ≡ mapResult countsOf (decodePayload (now (payload .entry))) ⌝ }
 {
-    match read_header(payload) {
-        HeaderReply::Header { base, strings } => match sum_lengths(payload, base, strings) {
-            NumberReply::Number(sum) => {
-                let room = 4 * (payload.len() - (base + strings));
-                if (room as u64) < sum {
-                    return StringsReply::Error(MatError::PayloadUnitsTruncated(sum));
-                }
-                match measure_strings(payload, base, strings) {
-                    NumberReply::Number(bytes) => StringsReply::Strings {
-                        bytes: to_usize(bytes),
-                        strings,
-                    },
-                    NumberReply::Error(e) => StringsReply::Error(e),
-                }
-            }
-            NumberReply::Error(e) => StringsReply::Error(e),
-        },
-        HeaderReply::Error(e) => StringsReply::Error(e),
+    match read_layout(payload) {
+        LayoutReply::Layout {
+            base,
+            strings,
+            units: _,
+        } => measure_strings(payload, base, strings),
+        LayoutReply::Error(e) => StringsReply::Error(e),
     }
 }
 
@@ -243,21 +282,30 @@ pub fn decode_string_saveobj(payload: &[u64], text: &mut [u8], spans: &mut [u64]
 pub fn is_canonical_payload(payload: &[u64]) -> bool
     ensures { λ r. ⌜ r ≡ isCanonicalPayload (now (payload .entry)) ⌝ }
 {
-    match measure_payload(payload) {
-        StringsReply::Strings { bytes: _, strings } => {
-            let base = 2 + to_usize(payload[1]);
-            let mut units: usize = 0;
+    match read_layout(payload) {
+        LayoutReply::Layout {
+            base,
+            strings,
+            units,
+        } => {
+            if !is_packed(payload, base + strings, units) {
+                return false;
+            }
             let mut i: usize = 0;
             while i < strings {
-                let count = payload[base + i];
-                if count == MISSING {
+                if payload[base + i] == MISSING {
                     return false;
                 }
-                units += to_usize(count);
                 i += 1;
             }
-            is_packed(payload, base + strings, units)
+            match measure_strings(payload, base, strings) {
+                StringsReply::Strings {
+                    bytes: _,
+                    strings: _,
+                } => true,
+                StringsReply::Error(_) => false,
+            }
         }
-        StringsReply::Error(_) => false,
+        LayoutReply::Error(_) => false,
     }
 }

@@ -3,7 +3,7 @@
 use native.Mathlib.Omega.{arith}
 use borrow.Author.Needs.{needs}
 use lib.ListN.{length-set}
-use Rattle.reader.proofs.TextLaws.{pair-placed}
+use Rattle.reader.proofs.TextLaws.{pair-puts}
 use Rattle.reader.proofs.units.put_pair.Statement.{statement}
 use Rattle.reader.proofs.units.put_pair.Tie as tie
 
@@ -33,4 +33,4 @@ put-pair-spec =
     (λ c. simp length-set (omega arith))
     (λ c. search needs)
     (λ c. search needs)
-    (λ c. search (pair-placed, needs)))
+    (λ c. search (pair-puts, needs)))
