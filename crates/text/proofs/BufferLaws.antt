@@ -181,13 +181,6 @@ placed-nothing d i =
     either (leb (i + 0) (length d)) (λ e. placed-whole d i [] (leb-true _ _ e) (record { end = omega arith; buffer = sym (put-none d i) }))
     (λ e. placed-not d i [] (leb-false _ _ e))
 
--- the next piece is written where it fits, and it does
-pub places-on : {all rest w next d₀ d : List ℕ} {o : ℕ} → length all ≤ length d₀ → Splits rest w next → SoFar all rest d₀ d o
-    → {e : ℕ} {d' : List ℕ} → Places d o w e d' → SoFar all next d₀ d' e
-places-on {all} {rest} {w} {next} {d₀} {d} {o} room p f {e} {d'} q =
-    let r = places-fits d o w (fits-next room p f) q in
-    goes-on room p f d' e (r .buffer) (r .end)
-
 -- ---- the same from an index on: what stands before it is the part that is written already
 
 module _ (d w : List ℕ) (at : ℕ) (room : at + length w ≤ length d) where

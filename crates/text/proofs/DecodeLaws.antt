@@ -15,7 +15,7 @@ use lib.Seq.{drop-cons}
 use Rattle.text.specs.Buffer.{put}
 use Rattle.text.specs.Replies.{lengthOf, DecodesUtf16}
 use Rattle.text.specs.Result.{ok, error, needPlace}
-use Rattle.text.specs.Unicode.{isHighSurrogate, isLowSurrogate, isSurrogate, utf8, utf8s, encoded}
+use Rattle.text.specs.Unicode.{isHighSurrogate, isLowSurrogate, isSurrogate, utf8, utf8s}
 use Rattle.text.specs.Utf16.{pairValue, unitStep, unitStepAt, scalars16, textOf, theText, TextFits, decodeUtf16}
 use Rattle.text.specs.declared.error.MatError.the-variants.{OutputTooShort, UnpairedSurrogate}
 use Rattle.text.specs.declared.utf16.TextLength.{TextLength}
@@ -25,7 +25,7 @@ use Rattle.text.specs.declared.utf16.UnitStep.{UnitStep}
 use Rattle.text.specs.declared.utf16.UnitStep.the-variants.{Scalar, Unpaired}
 use Rattle.text.proofs.BufferLaws.{SoFar, Splits, begins, fits-next, goes-on, ends, put-front}
 use Rattle.text.proofs.ReplyLaws.{writes}
-use Rattle.text.proofs.ScalarLaws.{IsScalar, is-scalar, encoded-is, gap-below, gap-above, lengths, utf16-1, utf16-2, utf8s-nil, utf8s-cons}
+use Rattle.text.proofs.ScalarLaws.{IsScalar, gap-below, gap-above, lengths, utf16-1, utf16-2, utf8s-nil, utf8s-cons}
 use Rattle.text.proofs.TestLaws.{within-yes, within-under, within-over, within-is}
 use Rattle.text.proofs.Utf8Laws.{map-is, not-some}
 use Rattle.text.proofs.Utf16Laws.{one-unit, two-units, scalars16-nil, alone, low-first, no-low}
@@ -193,9 +193,6 @@ module _ {us : List ℕ} {bytes i : ℕ} (m : Measuring us bytes i) where
               ∙ ap (withRest bytes) (f .rest)
               ∙ one-more bytes v (scalars16 (drop (i + n) us)) (ap (λ (k : ℕ). bytes + k) (z .0));
         }
-
-    pub measure-turn : {v n l : ℕ} → x ≡ Scalar v n → (l ≡ length (encoded utf8 v)) × (l ≤ 4) → Measuring us (bytes + l) (i + n)
-    measure-turn {v} g z = measure-size g (z .0 ∙ ap length (encoded-is v (is-scalar (found (m .reading) h e g .scalar))), z .1)
 
     pub measure-stop : x ≡ Unpaired → lengthOf textLength.Unpaired ≡ Option·map length (textOf us)
     measure-stop g = sym (m .so-far ∙ ap (withRest bytes) (found-unpaired (m .reading) h e g))
