@@ -335,6 +335,90 @@ static void string_calls(void)
     CHECK(a == 1 && b == 1 && text[0] == 'A' && spans[0] == 0 && spans[1] == 1 && spans[2] == KEPT);
 }
 
+/* The length that marks a missing string. */
+#define MISSING UINT64_MAX
+
+/* A surrogate is paired within its string (29), which is asked after the number of units (28) and before the room (34). */
+static void surrogate_calls(void)
+{
+    const struct {
+        uint64_t payload[8], length;
+        uint32_t number;
+        uint64_t where;
+    } refusals[] = {
+        /* A lone surrogate before a shortage, and without one. */
+        {{1, 1, 1, 5, 0xD800}, 5, 28, 5},
+        {{1, 1, 1, 1, 0xD800}, 5, 29, 0},
+        {{1, 0, 5, 0xDEE2DEE2DEE2DEE2}, 4, 28, 5},
+        {{1, 0, 4, 0xDEE2DEE2DEE2DEE2}, 4, 29, 0},
+        {{1, 1, 2, 1, 5, 0xD800}, 6, 28, 6},
+        {{1, 1, 2, 1, 3, 0xD800}, 6, 29, 0},
+        {{1, 1, 2, 1, MISSING - 1, 0xD800}, 6, 28, UINT64_MAX},
+        {{1, 1, 3, 1, MISSING - 1, 1, 0xD800}, 7, 27, 2},
+        {{1, 1, 3, 4, 4, 1, 0xD800D800D800D800, 'A'}, 8, 28, 9},
+        {{1, 1, 3, 4, 3, 1, 0xD800D800D800D800, 'A'}, 8, 29, 0},
+        /* Missing strings count in the place, and have no units. */
+        {{1, 1, 4, MISSING, 1, MISSING, 4, 0xD800}, 8, 28, 5},
+        {{1, 1, 4, MISSING, 1, MISSING, 1, 0xD8000041}, 8, 29, 3},
+        {{1, 1, 3, MISSING, MISSING, 1, 0xDC00}, 7, 29, 2},
+        /* A pair over the border of two strings, and over that of two words as well. */
+        {{1, 1, 2, 1, 1, 0xDEE2D83D}, 6, 29, 0},
+        {{1, 1, 3, 1, MISSING, 1, 0xDEE2D83D}, 7, 29, 0},
+        {{1, 1, 3, 1, 0, 1, 0xDEE2D83D}, 7, 29, 0},
+        {{1, 1, 3, 1, 1, 1, 0xDEE2D83D0041}, 7, 29, 1},
+        {{1, 1, 2, 4, 1, 0xD83D004100410041, 0xDEE2}, 7, 29, 0},
+        /* A spare unit completes no pair. */
+        {{1, 1, 1, 1, 0xDEE2D83D}, 5, 29, 0},
+    };
+    uint8_t text[12];
+    uint64_t spans[7];
+    KEEP(text), KEEP(spans);
+    for (size_t i = 0; i < sizeof refusals / sizeof refusals[0]; i++) {
+        const uint64_t *payload = refusals[i].payload, length = refusals[i].length, where = refusals[i].where;
+        const uint32_t number = refusals[i].number;
+        fresh();
+        CHECK(refused(mcos_decode_string_saveobj(payload, length, text, 12, spans, 7, &a, &b, &place), number, where));
+        fresh();
+        CHECK(refused(mcos_decode_string_saveobj(payload, length, text, 0, spans, 0, &a, &b, &place), number, where));
+        CHECK(IS_KEPT(text) && IS_KEPT(spans));
+    }
+
+    /* A pair that straddles two words, with a spare surrogate after it. */
+    const uint64_t straddles[] = {1, 1, 2, 3, 2, 0xD83D004100410041, 0xD800DEE2}, straddled[] = {0, 3, 3, 4};
+    fresh();
+    CHECK(refused(mcos_decode_string_saveobj(straddles, 7, text, 6, spans, 4, &a, &b, &place), 34, 7));
+    CHECK(refused(mcos_decode_string_saveobj(straddles, 7, text, 7, spans, 3, &a, &b, &place), 34, 4));
+    CHECK(refused(mcos_decode_string_saveobj(straddles, 7, text, 0, spans, 0, &a, &b, &place), 34, 7));
+    CHECK(IS_KEPT(text) && IS_KEPT(spans));
+    fresh();
+    CHECK(accepted(mcos_decode_string_saveobj(straddles, 7, text, 7, spans, 4, &a, &b, &place)) && a == 7 && b == 2);
+    CHECK(memcmp(text, "AAA\xF0\x9F\x9B\xA2", 7) == 0 && kept(text + 7, 5));
+    CHECK(memcmp(spans, straddled, sizeof straddled) == 0 && kept(spans + 4, 24));
+
+    /* A pair right before the border of two strings, and before a missing one. */
+    const uint64_t before[] = {1, 1, 2, 4, 1, 0xDEE2D83D00410041, 'B'}, cut_after[] = {0, 6, 6, 1};
+    KEEP(text), KEEP(spans), fresh();
+    CHECK(accepted(mcos_decode_string_saveobj(before, 7, text, 12, spans, 7, &a, &b, &place)) && a == 7 && b == 2);
+    CHECK(memcmp(text, "AA\xF0\x9F\x9B\xA2" "B", 7) == 0 && kept(text + 7, 5));
+    CHECK(memcmp(spans, cut_after, sizeof cut_after) == 0 && kept(spans + 4, 24));
+    const uint64_t three[] = {1, 1, 3, 2, MISSING, 3, 0x00E90041DEE2D83D, 0x20AC}, spans_of_three[] = {0, 4, 4, 0, 4, 6};
+    KEEP(text), KEEP(spans), fresh();
+    CHECK(accepted(mcos_decode_string_saveobj(three, 8, text, 10, spans, 6, &a, &b, &place)) && a == 10 && b == 3);
+    CHECK(memcmp(text, "\xF0\x9F\x9B\xA2" "A\xC3\xA9\xE2\x82\xAC", 10) == 0 && kept(text + 10, 2));
+    CHECK(memcmp(spans, spans_of_three, sizeof spans_of_three) == 0 && spans[6] == KEPT);
+
+    /* Two such payloads in a store: the one that is named first is refused, by its own check. */
+    const uint64_t words[] = {1, 1, 1, 1, 0xD800, 1, 1, 1, 5, 0xD800}, directory[] = {0, 5, 5, 5};
+    const uint32_t first[] = {0xDD000000, 1, 2, 1, 2, 1}, second[] = {0xDD000000, 1, 2, 2, 1, 1};
+    const uint8_t kinds[] = {0, 0};
+    KEEP(text), KEEP(spans), fresh();
+    CHECK(refused(mcos_decode_string(blob, 240, directory, 4, kinds, 2, words, 10, first, 6, text, 12, spans, 7, &a, &b, &place), 29, 0));
+    CHECK(refused(mcos_decode_string(blob, 240, directory, 4, kinds, 2, words, 10, second, 6, text, 12, spans, 7, &a, &b, &place), 28, 5));
+    CHECK(refused(mcos_decode_string_object(blob, 240, directory, 4, kinds, 2, words, 10, 1, text, 12, spans, 7, &a, &b, &place), 29, 0));
+    CHECK(refused(mcos_decode_string_object(blob, 240, directory, 4, kinds, 2, words, 10, 2, text, 12, spans, 7, &a, &b, &place), 28, 5));
+    CHECK(IS_KEPT(text) && IS_KEPT(spans));
+}
+
 static mcos_counts counts;
 static uint8_t store_blob[288], store_kinds[3];
 static uint64_t store_directory[6], store_words[12];
@@ -500,6 +584,7 @@ int main(void)
     label_calls();
     listing_calls();
     string_calls();
+    surrogate_calls();
     edit_calls();
     empty_blob_calls();
     printf("%d checks, %d failed\n", checks, failed);

@@ -372,11 +372,76 @@ fn decode_string_saveobj() {
     }
 }
 
+/// A surrogate is paired within its string (29), which is asked after the number
+/// of units (28) and before the room (34).
+#[test]
+fn decode_string_saveobj_surrogates() {
+    const MISSING: u64 = u64::MAX;
+    let call = |payload: &'static [u64]| {
+        move |text: &mut [u8], spans: &mut [u64]| mcos::decode_string_saveobj(payload, text, spans)
+    };
+    writes_strings(&["\u{1F6E2}"], call(&[1, 1, 1, 2, 0xDEE2_D83D]));
+    // A pair that straddles two words, and a spare surrogate after it.
+    writes_strings(&["AAA", "\u{1F6E2}"], {
+        call(&[1, 1, 2, 3, 2, 0xD83D_0041_0041_0041, 0xD800_DEE2])
+    });
+    // A pair right before the border of two strings, and before a missing one.
+    writes_strings(&["AA\u{1F6E2}", "B"], {
+        call(&[1, 1, 2, 4, 1, 0xDEE2_D83D_0041_0041, 0x42])
+    });
+    writes_strings(&["\u{1F6E2}", "", "Aé€"], {
+        call(&[1, 1, 3, 2, MISSING, 3, 0x00E9_0041_DEE2_D83D, 0x20AC])
+    });
+    writes_strings(&["\u{10FFFF}", "\u{10000}"], {
+        call(&[1, 1, 2, 2, 2, 0xDC00_D800_DFFF_DBFF])
+    });
+
+    let (units, unpaired) = (MatError::PayloadUnitsTruncated, MatError::UnpairedSurrogate);
+    for (payload, error) in [
+        // A lone surrogate before a shortage, and without one.
+        (&[1, 1, 1, 5, 0xD800][..], units(5)),
+        (&[1, 1, 1, 1, 0xD800], unpaired(0)),
+        (&[1, 1, 2, 1, 5, 0xD800], units(6)),
+        (&[1, 1, 2, 1, 3, 0xD800], unpaired(0)),
+        (&[1, 1, 2, 1, MISSING - 1, 0xD800], units(u64::MAX)),
+        (
+            &[1, 1, 3, 1, MISSING - 1, 1, 0xD800],
+            MatError::PayloadLengthSumOverflow(2),
+        ),
+        (&[1, 1, 3, 4, 4, 1, 0xD800_D800_D800_D800, 0x41], units(9)),
+        (
+            &[1, 1, 3, 4, 3, 1, 0xD800_D800_D800_D800, 0x41],
+            unpaired(0),
+        ),
+        // Missing strings count in the place, and have no units.
+        (&[1, 1, 4, MISSING, 1, MISSING, 4, 0xD800], units(5)),
+        (&[1, 1, 4, MISSING, 1, MISSING, 1, 0xD800_0041], unpaired(3)),
+        (&[1, 1, 3, MISSING, MISSING, 1, 0xDC00], unpaired(2)),
+        // A pair over the border of two strings, and of two words as well.
+        (&[1, 1, 2, 1, 1, 0xDEE2_D83D], unpaired(0)),
+        (&[1, 1, 3, 1, MISSING, 1, 0xDEE2_D83D], unpaired(0)),
+        (&[1, 1, 3, 1, 1, 1, 0xDEE2_D83D_0041], unpaired(1)),
+        (&[1, 1, 2, 4, 1, 0xD83D_0041_0041_0041, 0xDEE2], unpaired(0)),
+        // A spare unit completes no pair.
+        (&[1, 1, 1, 1, 0xDEE2_D83D], unpaired(0)),
+    ] {
+        refuses_strings(error, 40, 20, call(payload));
+        refuses_strings(error, 0, 0, call(payload));
+    }
+}
+
 /// The payloads of `A` and of `B`, `€`: two cells with a gap between them.
 const CELLS: Cells<'static> = Cells {
     directory: &[0, 4, 5, 6],
     kinds: &[0, 0],
     words: &[1, 0, 1, 0x41, 0, 1, 1, 2, 1, 1, 0x20AC_0042],
+};
+
+/// Two payloads with a lone surrogate; the second has too few units as well.
+const LONE: Cells<'static> = Cells {
+    directory: &[0, 5, 5, 5],
+    kinds: &[0, 0],
+    words: &[1, 1, 1, 1, 0xD800, 1, 1, 1, 5, 0xD800],
 };
 
 #[test]
@@ -426,6 +491,17 @@ fn decode_string() {
         cells(&[0, 4, 5, 0], &[0, 0]),
         list,
     );
+    // The payload that is named first is refused, by its own check.
+    refused(
+        MatError::UnpairedSurrogate(0),
+        LONE,
+        &[MAGIC, 1, 2, 1, 2, 1],
+    );
+    refused(
+        MatError::PayloadUnitsTruncated(5),
+        LONE,
+        &[MAGIC, 1, 2, 2, 1, 1],
+    );
     let mut bad = blob;
     bad[8] = 39;
     let call = by(bad, cells(&[1], &[]), &[]);
@@ -452,6 +528,8 @@ fn decode_string_object() {
 
     let refused = |error, blob, cells, id| refuses_strings(error, 9, 9, by(blob, cells, id));
     refused(MatError::ObjectIdOutOfRange(3), blob, CELLS, 3);
+    refused(MatError::UnpairedSurrogate(0), blob, LONE, 1);
+    refused(MatError::PayloadUnitsTruncated(5), blob, LONE, 2);
     let any_class = patched(76, 1);
     refused(MatError::NotStringObject(0), any_class, CELLS, 1);
     let inline = patched(104, 2);
