@@ -3,10 +3,11 @@
 use mcos::MatError;
 use oracle::Refusal;
 
-use crate::latin9::Wrong;
+use crate::latin9;
 use crate::lent::{Lengths, Lent, Room, Written};
 use crate::library::{Cells, KEPT, Part, Reply, Values, values};
 use crate::rules::{self, Limit, Rule};
+use crate::surrogates;
 use crate::tally::{Kind, Tally};
 
 /// What the Rust answers.
@@ -18,6 +19,10 @@ pub enum Rust<'a> {
     /// or 02.
     Lacks(MatError),
 }
+
+/// What plain code expects of a call: its values and what it writes, or its
+/// refusal.
+pub(crate) type Expected<'a> = Result<(Values, Written<'a>), MatError>;
 
 /// A question to both sides.
 pub struct Case<'a> {
@@ -64,12 +69,14 @@ pub enum Fault {
     /// The slice of a label lies one byte further on.
     Part,
     /// An export or import is a wrong program's.
-    Latin9(Wrong),
+    Latin9(latin9::Wrong),
+    /// The reading of a payload is a wrong program's.
+    Surrogates(surrogates::Wrong),
 }
 
 impl Fault {
     /// All of them.
-    pub const ALL: [Self; 21] = [
+    pub const ALL: [Self; 32] = [
         Self::Value(0),
         Self::Value(1),
         Self::Value(2),
@@ -83,14 +90,25 @@ impl Fault {
         Self::PlaceCell,
         Self::KeptCell,
         Self::Part,
-        Self::Latin9(Wrong::OwnByte),
-        Self::Latin9(Wrong::NoControls),
-        Self::Latin9(Wrong::PlaceInBytes),
-        Self::Latin9(Wrong::PlaceOfPart),
-        Self::Latin9(Wrong::UnmappableFirst),
-        Self::Latin9(Wrong::RoomFirst),
-        Self::Latin9(Wrong::Bound),
-        Self::Latin9(Wrong::Halfway),
+        Self::Latin9(latin9::Wrong::OwnByte),
+        Self::Latin9(latin9::Wrong::NoControls),
+        Self::Latin9(latin9::Wrong::PlaceInBytes),
+        Self::Latin9(latin9::Wrong::PlaceOfPart),
+        Self::Latin9(latin9::Wrong::UnmappableFirst),
+        Self::Latin9(latin9::Wrong::RoomFirst),
+        Self::Latin9(latin9::Wrong::Bound),
+        Self::Latin9(latin9::Wrong::Halfway),
+        Self::Surrogates(surrogates::Wrong::MeasuredFirst),
+        Self::Surrogates(surrogates::Wrong::OverBorder),
+        Self::Surrogates(surrogates::Wrong::SplitByWords),
+        Self::Surrogates(surrogates::Wrong::SixBytes),
+        Self::Surrogates(surrogates::Wrong::LoneAsThree),
+        Self::Surrogates(surrogates::Wrong::MissingUncounted),
+        Self::Surrogates(surrogates::Wrong::LowUnbounded),
+        Self::Surrogates(surrogates::Wrong::LowestOnly),
+        Self::Surrogates(surrogates::Wrong::PastLast),
+        Self::Surrogates(surrogates::Wrong::RoomFirst),
+        Self::Surrogates(surrogates::Wrong::Halfway),
     ];
 
     /// Puts the fault into a reply or its buffers; false if it has no place
@@ -196,28 +214,64 @@ impl Judge {
         expected: Result<&[u8], MatError>,
         mut call: impl FnMut(Room<'_>) -> (Reply, bool),
     ) {
-        self.faulted = false;
-        let written = Written {
-            text: expected.unwrap_or_default(),
-            ..Written::default()
-        };
         let lengths = Lengths {
             text: room,
             ..NOTHING
         };
-        let mut faulted = false;
-        let answer = self.call(lengths, written, &mut |room: Room<'_>| {
-            let (reply, put) = call(room);
-            faulted = put;
-            reply
+        let expected = expected.map(|text| {
+            let written = Written {
+                text,
+                ..Written::default()
+            };
+            (values([text.len() as u64]), written)
         });
-        let expected = expected.map(|bytes| values([bytes.len() as u64]));
-        let verdict = answer.and_then(|answer| match answer {
-            _ if answer != expected => Err(format!("{answer:?}; expected {expected:?}")),
+        self.hold_outputs(case, &[(lengths, expected)], |room, _| call(room));
+    }
+
+    /// Holds a call to plain code on one output after another, each with what
+    /// is expected there. The case counts as its first output does. The call
+    /// tells whether it put a fault into its reply.
+    pub(crate) fn hold_outputs(
+        &mut self,
+        case: &Case<'_>,
+        outputs: &[(Lengths, Expected<'_>)],
+        mut call: impl FnMut(Room<'_>, &Expected<'_>) -> (Reply, bool),
+    ) {
+        self.faulted = false;
+        let mut faulted = false;
+        let held = outputs.iter().map(|(lengths, expected)| {
+            self.output(*lengths, expected, &mut |room: Room<'_>| {
+                let (reply, put) = call(room, expected);
+                faulted |= put;
+                reply
+            })
+        });
+        let verdict = held.reduce(|first, next| first.and_then(|first| next.map(|_| first)));
+        let verdict = verdict.expect("an output");
+        self.settle(case, faulted || self.faulted, verdict);
+    }
+
+    /// One call on an output of these lengths, held to plain code.
+    fn output(
+        &mut self,
+        lengths: Lengths,
+        expected: &Expected<'_>,
+        call: &mut impl FnMut(Room<'_>) -> Reply,
+    ) -> Result<Agreement, String> {
+        let (expected, written) = match *expected {
+            Ok((values, written)) => (Ok(values), written),
+            Err(error) => (Err(error), Written::default()),
+        };
+        let answer = self
+            .call(lengths, written, call)
+            .map_err(|what| format!("{what}, in {lengths:?}; expected {expected:?}"))?;
+        match answer {
+            _ if answer != expected => {
+                Err(format!("{answer:?} in {lengths:?}; expected {expected:?}"))
+            }
             Ok(_) => Ok(Agreement::Accepted),
             Err(error) => Ok(Agreement::Refused(error)),
-        });
-        self.settle(case, faulted || self.faulted, verdict);
+        }
     }
 
     /// Counts a case: how the two sides agree, or what is different.
@@ -279,17 +333,11 @@ impl Judge {
         call: &mut impl FnMut(Room<'_>) -> Reply,
     ) -> Result<Agreement, String> {
         let need = written.need();
-        let spare = Lengths {
-            text: need.text + SPARE,
-            words: need.words + SPARE,
-            rows: need.rows + SPARE,
-            objects: need.objects + SPARE,
-        };
         let accepts = |answer| match answer {
             Ok(given) if given == values => Ok(()),
             given => Err(format!("{given:?}; the Rust gives {values:?}")),
         };
-        let first = self.call(spare, written, call)?;
+        let first = self.call(with_spare(need), written, call)?;
         if let Err(error) = first
             && let Some(rule) = rules::limit(case.limits, error)
         {
@@ -363,15 +411,25 @@ impl Judge {
     }
 }
 
-const NOTHING: Lengths = Lengths {
+pub(crate) const NOTHING: Lengths = Lengths {
     text: 0,
     words: 0,
     rows: 0,
     objects: 0,
 };
 
+/// What is needed, and some more of each buffer.
+pub(crate) fn with_spare(need: Lengths) -> Lengths {
+    Lengths {
+        text: need.text + SPARE,
+        words: need.words + SPARE,
+        rows: need.rows + SPARE,
+        objects: need.objects + SPARE,
+    }
+}
+
 /// Each buffer that something is written to, one short, with what it needs.
-fn one_short(need: Lengths) -> impl Iterator<Item = (Lengths, usize)> {
+pub(crate) fn one_short(need: Lengths) -> impl Iterator<Item = (Lengths, usize)> {
     let less = |n: usize| n.checked_sub(1);
     let text = less(need.text).map(|text| (Lengths { text, ..need }, need.text));
     let words = less(need.words).map(|words| (Lengths { words, ..need }, need.words));

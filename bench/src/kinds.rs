@@ -12,7 +12,7 @@ use crate::generate::stores::Store;
 use crate::judge::{Case, Judge, Rust};
 use crate::labels;
 use crate::lent::{Room, Written};
-use crate::library::{self, Array, Reply, values};
+use crate::library::{self, Array, Reply, Values, values};
 use crate::rules::Limit;
 use crate::tally::Kind;
 
@@ -52,14 +52,20 @@ impl Strings {
         Self { text, spans }
     }
 
-    pub(crate) fn accepted(&self) -> Rust<'_> {
+    /// The values of the call that gives them, and what it writes.
+    pub(crate) fn answer(&self) -> (Values, Written<'_>) {
         let (text, words) = (self.text.as_bytes(), &self.spans[..]);
         let written = Written {
             text,
             words,
             ..Written::default()
         };
-        Rust::Accepts(values([text.len() as u64, words.len() as u64 / 2]), written)
+        (values([text.len() as u64, words.len() as u64 / 2]), written)
+    }
+
+    pub(crate) fn accepted(&self) -> Rust<'_> {
+        let (values, written) = self.answer();
+        Rust::Accepts(values, written)
     }
 }
 

@@ -67,6 +67,17 @@ pub struct Room<'a> {
     pub objects: &'a mut [ObjectRow],
 }
 
+impl Room<'_> {
+    pub fn lengths(&self) -> Lengths {
+        Lengths {
+            text: self.text.len(),
+            words: self.words.len(),
+            rows: self.rows.len(),
+            objects: self.objects.len(),
+        }
+    }
+}
+
 /// What stands at the front of the buffers after an accepted call.
 #[derive(Debug, Clone, Copy, Default)]
 pub struct Written<'a> {

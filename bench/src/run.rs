@@ -3,6 +3,7 @@
 mod edits;
 mod labels;
 mod latin9;
+mod surrogates;
 
 use crate::empty;
 use crate::generate::{arrays, blobs, every, lists, payloads, stores, text};
@@ -27,6 +28,13 @@ pub fn exhaustive(judge: &mut Judge, share: Share) {
     shorter_than_a_header(judge, share);
     word_lists(judge, share);
     short_payloads(judge, share);
+    surrogates::words(judge, share);
+    surrogates::one_word(judge, share);
+    surrogates::two_words(judge, share);
+    surrogates::spare_units(judge, share);
+    surrogates::shortages(judge, share);
+    surrogates::sums(judge, share);
+    surrogates::stores(judge, share);
     short_lists_of_a_store(judge, share);
     short_arrays(judge, share);
     labels::short_names(judge, share);
@@ -180,6 +188,7 @@ fn short_arrays(judge: &mut Judge, share: Share) {
 /// The smallest inputs of the known differences and findings.
 pub fn known(judge: &mut Judge) {
     latin9::known(judge);
+    surrogates::known(judge);
     let header = |names| blobs::header(names, &[40; 8], &[]);
     kinds::blob(judge, &[]);
     for names in [0, 1, 2, 1 << 20, (1 << 20) + 1, u32::MAX] {
@@ -233,6 +242,7 @@ pub fn known(judge: &mut Judge) {
 /// Inputs at the limits, and one past them; texts have none, so long ones.
 pub fn limits(judge: &mut Judge) {
     latin9::long(judge);
+    surrogates::long(judge);
     for objects in [
         349_521,
         349_522,
@@ -326,6 +336,7 @@ pub fn round(judge: &mut Judge, rng: &mut Rng) {
         kinds::word_list(judge, &list);
         kinds::write(judge, &arrays::array(rng));
     }
+    surrogates::round(judge, rng);
     for _ in 0..2 {
         let store = stores::store(rng);
         let objects = store.kinds.len();

@@ -27,6 +27,10 @@ pub enum Kind {
     Payload,
     FirstRoad,
     SecondRoad,
+    /// Payloads around the pairing of surrogates, and both roads to them.
+    SurrogatePayload,
+    SurrogateFirstRoad,
+    SurrogateSecondRoad,
     Measure,
     Write,
     Build,
@@ -40,15 +44,24 @@ pub enum Kind {
     TamperedReplace,
 }
 
-impl Kind {
-    /// Whether it is held to plain code of document 02 alone.
-    fn is_latin9(self) -> bool {
-        matches!(self, Self::Export | Self::Import)
-    }
+/// Kinds whose refusals are counted together: all that have no other group, then
+/// those that are held to plain code alone, and edits.
+const GROUPS: [&str; 4] = [
+    "",
+    " exports and imports",
+    " payloads with surrogates",
+    " edits",
+];
 
-    /// Whether it is an edit, which is held to the edited list.
-    fn is_edit(self) -> bool {
-        self >= Self::Append
+impl Kind {
+    /// Its place among the groups.
+    fn group(self) -> usize {
+        match self {
+            Self::Export | Self::Import => 1,
+            Self::SurrogatePayload | Self::SurrogateFirstRoad | Self::SurrogateSecondRoad => 2,
+            _ if self >= Self::Append => 3,
+            _ => 0,
+        }
     }
 }
 
@@ -71,6 +84,9 @@ impl fmt::Display for Kind {
             Self::Payload => "decode_string_saveobj",
             Self::FirstRoad => "decode_string",
             Self::SecondRoad => "decode_string_object",
+            Self::SurrogatePayload => "surrogates: decode_string_saveobj",
+            Self::SurrogateFirstRoad => "surrogates: decode_string",
+            Self::SurrogateSecondRoad => "surrogates: decode_string_object",
             Self::Measure => "measure_payload",
             Self::Write => "encode_string_saveobj_payload",
             Self::Build => "build_string_filewrapper_metadata",
@@ -191,7 +207,7 @@ impl fmt::Display for Tally {
         )?;
         writeln!(f, "|---|---:|---:|---:|---:|---:|")?;
         let mut total = [0; 5];
-        let (mut refused, mut latin9, mut edits) = ([0; NUMBERS], [0; NUMBERS], [0; NUMBERS]);
+        let mut refused = [[0; NUMBERS]; GROUPS.len()];
         for (kind, count) in &self.counts {
             let explained = count.explained.values().map(|seen| seen.cases).sum();
             let row = [
@@ -203,23 +219,13 @@ impl fmt::Display for Tally {
             ];
             write_row(f, &kind.to_string(), row)?;
             add(&mut total, row);
-            let by_check = if kind.is_edit() {
-                &mut edits
-            } else if kind.is_latin9() {
-                &mut latin9
-            } else {
-                &mut refused
-            };
-            add(by_check, count.refused);
+            add(&mut refused[kind.group()], count.refused);
         }
         write_row(f, "total", total)?;
-        writeln!(f, "\nAgreed refused, by check: {}", by_check(&refused))?;
-        let latin9 = by_check(&latin9);
-        writeln!(
-            f,
-            "\nAgreed refused exports and imports, by check: {latin9}"
-        )?;
-        writeln!(f, "\nAgreed refused edits, by check: {}", by_check(&edits))?;
+        for (group, refused) in GROUPS.iter().zip(&refused) {
+            let refused = by_check(refused);
+            writeln!(f, "\nAgreed refused{group}, by check: {refused}")?;
+        }
         let differences = |(kind, count): (&Kind, &Count)| {
             let kind = *kind;
             let rules = count.explained.clone().into_iter();

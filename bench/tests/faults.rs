@@ -7,6 +7,13 @@ use bench::rng::Rng;
 use bench::run;
 use bench::tally::Kind;
 
+/// Payloads around the pairing of surrogates, and both roads to them.
+const SURROGATES: [Kind; 3] = [
+    Kind::SurrogatePayload,
+    Kind::SurrogateFirstRoad,
+    Kind::SurrogateSecondRoad,
+];
+
 #[test]
 fn every_fault_is_reported() {
     for fault in Fault::ALL {
@@ -14,7 +21,10 @@ fn every_fault_is_reported() {
         let put = |kind| tally.counts[&kind].faults > 0;
         let edits = put(Kind::Append) || put(Kind::Replace);
         let (exports, imports) = (put(Kind::Export), put(Kind::Import));
-        if let Fault::Latin9(wrong) = fault {
+        let surrogates = SURROGATES.map(put);
+        if let Fault::Surrogates(_) = fault {
+            assert_eq!(surrogates, [true; 3], "{fault:?} in payloads");
+        } else if let Fault::Latin9(wrong) = fault {
             assert!(exports, "{fault:?} in no export");
             let both = matches!(wrong, Wrong::OwnByte | Wrong::Bound | Wrong::Halfway);
             assert_eq!(imports, both, "{fault:?} in imports");
@@ -37,6 +47,9 @@ fn every_fault_is_reported() {
             let places = (exports, imports);
             let expected = !none.contains(&fault);
             assert_eq!(places, (expected, expected), "{fault:?} in Latin-9");
+            // They have two values.
+            let expected = expected || fault == Fault::Value(1);
+            assert_eq!(surrogates, [expected; 3], "{fault:?} in payloads");
         }
         let mut faults = 0;
         for (kind, count) in tally.counts {
@@ -56,7 +69,7 @@ fn no_fault_is_no_report() {
     let mut judge = Judge::default();
     run::known(&mut judge);
     let mut rng = Rng::new(2);
-    for _ in 0..20 {
+    for _ in 0..40 {
         run::round(&mut judge, &mut rng);
     }
     assert_eq!(judge.tally.unexplained(), 0, "{}", judge.tally);
@@ -71,6 +84,9 @@ fn no_fault_is_no_report() {
     for (kind, numbers) in [
         (Kind::Export, &[30, 34, 36][..]),
         (Kind::Import, &[34]),
+        (Kind::SurrogatePayload, &[27, 28, 29]),
+        (Kind::SurrogateFirstRoad, &[27, 28, 29]),
+        (Kind::SurrogateSecondRoad, &[27, 28, 29]),
         (Kind::Label, &[2, 3, 5, 6, 11]),
         (Kind::Empty, &[13, 14, 33]),
         (Kind::Append, &[30, 31, 34]),

@@ -7,6 +7,7 @@ pub mod latin9;
 pub mod lists;
 pub mod payloads;
 pub mod stores;
+pub mod surrogates;
 pub mod text;
 
 /// Calls `each` on every list of `len` items of `alphabet`, of which a worker

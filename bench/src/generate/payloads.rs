@@ -41,8 +41,7 @@ pub fn payload(rng: &mut Rng) -> Vec<u64> {
         words.push(units.len() as u64);
         all.extend_from_slice(&units);
     }
-    all.resize(all.len().next_multiple_of(4), 0);
-    words.extend(all.as_chunks().0.iter().map(|&units| pack(units)));
+    words.extend(packed(&all));
     words
 }
 
@@ -54,8 +53,14 @@ fn scalars(units: &[u16]) -> Vec<u16> {
     text.encode_utf16().collect()
 }
 
-fn pack([a, b, c, d]: [u16; 4]) -> u64 {
-    u64::from(a) | u64::from(b) << 16 | u64::from(c) << 32 | u64::from(d) << 48
+/// Code units four to a word, the first one lowest; the last word is padded
+/// with zeros.
+pub(super) fn packed(units: &[u16]) -> impl Iterator<Item = u64> {
+    let word = |units: &[u16]| {
+        let join = |word: u64, &unit: &u16| word << 16 | u64::from(unit);
+        units.iter().rev().fold(0, join)
+    };
+    units.chunks(4).map(word)
 }
 
 /// Damages a payload: words, its length, spare words.
