@@ -140,7 +140,7 @@ module _ {w : List ℕ} {first k n : ℕ} {d₀ : List ℕ} {at : ℕ} {d : List
           pair : Pair us (m .j)
           pair =
               let s : isSurrogate (getD us (m .j) 0) ≡ true = ap isSurrogate (unit-of w first k n (m .j) inside ∙ sym unit) ∙ sym g ∙ not-false r t in
-              pair-by us (m .j) _ _ _ s refl refl refl (λ x. not-some (sym (found-unpaired (m .reading) here x refl) ∙ m .rest))
+              pair-by us (m .j) _ _ s refl refl (λ x. not-some (sym (found-unpaired (m .reading) here x refl) ∙ m .rest))
 
           pair-inside : m .j + 1 < n
           pair-inside = omega (arith, pair .more, length-units w first k n)

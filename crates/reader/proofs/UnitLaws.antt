@@ -1,7 +1,7 @@
 -- Code units in words: the steps of decoding them, the longest text of units, and whether they fill the words.
 -- Assumes nothing.
-use mathlib.Core.Path.{_≡_, refl, sym, ap}
-use mathlib.Core.Bool.{Bool, true, false, _&&_, and-false}
+use mathlib.Core.Path.{_≡_, refl, _∙_, ap}
+use mathlib.Core.Bool.{Bool, true, false, _&&_}
 use mathlib.Core.List.{List, [], _∷_}
 use mathlib.Core.Option.{some}
 use Prim.Native.Nat.{ℕ, zero, suc, _+_, _-_, _*_, _/_, _%_, _^_, _≤_, _<_}
@@ -12,8 +12,9 @@ use lib.ListN.{length, getD, List·getD-eq-default}
 use Rattle.text.specs.Unicode.{Below, isHighSurrogate, isLowSurrogate, isSurrogate, utf8s}
 use Rattle.text.specs.Utf16.{pairValue, unitStep, unitStepAt, scalars16, textOf}
 use Rattle.text.specs.declared.utf16.UnitStep.the-variants.{Scalar, Unpaired}
-use Rattle.text.proofs.DecodeLaws.{Reading, reads-start}
+use Rattle.text.proofs.DecodeLaws.{single-step, alone-step, pair-step, unpaired-step, Reading, reads-start}
 use Rattle.text.proofs.ScalarLaws.{gap-below, bytes-le}
+use Rattle.text.proofs.TestLaws.{and-is}
 use Rattle.text.proofs.Utf8Laws.{map-is}
 use Rattle.text.proofs.Utf16Laws.{spelled16}
 use Rattle.reader.specs.Units.{unitAt, unitsIn, isPacked}
@@ -55,21 +56,20 @@ pub record Pair (us : List ℕ) (i : ℕ) : Type 0 where
   pub low : isLowSurrogate (getD us (i + 1) 0) ≡ true
   pub is : Scalar (pairValue (getD us i 0) (getD us (i + 1) 0)) 2 ≡ unitStepAt us i
 
-pub pair-by : (us : List ℕ) (i : ℕ) (a b c : Bool) → isSurrogate (getD us i 0) ≡ true → isHighSurrogate (getD us i 0) ≡ a
-    → ltb (i + 1) (length us) ≡ b → isLowSurrogate (getD us (i + 1) 0) ≡ c → (Unpaired ≡ unitStepAt us i → ⊥) → Pair us i
-unfolding unitStep
-pair-by us i true true true g ea eb ec never = record { more = ltb-true _ _ eb; high = ea; low = ec; is = simp (g, ea, eb, ec) }
-pair-by us i true true false g ea eb ec never = absurd (never (simp (g, ea, eb, ec)))
-pair-by us i true false c g ea eb ec never = absurd (never (simp (g, ea, eb)))
-pair-by us i false b c g ea eb ec never = absurd (never (simp (g, ea)))
+pub pair-by : (us : List ℕ) (i : ℕ) (more pair : Bool) → isSurrogate (getD us i 0) ≡ true → ltb (i + 1) (length us) ≡ more
+    → (isHighSurrogate (getD us i 0) && isLowSurrogate (getD us (i + 1) 0)) ≡ pair → (Unpaired ≡ unitStepAt us i → ⊥) → Pair us i
+pair-by us i true true g m p never =
+    let h = and-is _ _ p in
+    record { more = ltb-true _ _ m; high = h .0; low = h .1; is = rw m (pair-step _ _ g p) }
+pair-by us i true false g m p never = absurd (never (rw m (unpaired-step _ _ g p)))
+pair-by us i false pair g m p never = absurd (never (rw m (alone-step _ _ g)))
 
 -- ---- one step of decoding at index i of n units, by the unit there and the one after it
 
 module _ (w : List ℕ) (first k n i : ℕ) {u : ℕ} (h : i < n) (eu : u ≡ unitAt w first (k + i)) where
   -- no surrogate: the unit alone
   pub step-single : isSurrogate u ≡ false → Scalar u 1 ≡ unitStepAt (unitsIn w first k n) i
-  unfolding unitStep
-  step-single g = rw (unit-of w first k n i h, ← eu) (simp g)
+  step-single g = rw (unit-of w first k n i h, ← eu) (single-step u _ _ g)
 
   pub step-one : u < 0xD800 → Scalar u 1 ≡ unitStepAt (unitsIn w first k n) i
   step-one l = step-single (gap-below u l)
@@ -77,10 +77,9 @@ module _ (w : List ℕ) (first k n i : ℕ) {u : ℕ} (h : i < n) (eu : u ≡ un
   module _ (g : isSurrogate u ≡ true) where
     -- the last unit
     pub step-last : n - i < 2 → Unpaired ≡ unitStepAt (unitsIn w first k n) i
-    unfolding unitStep
     step-last l =
         let m = length-units w first k n in
-        rw (unit-of w first k n i h, ← eu, le-ltb (i + 1) (length (unitsIn w first k n)) (omega arith)) (simp (g, and-false))
+        rw (unit-of w first k n i h, ← eu, le-ltb (i + 1) (length (unitsIn w first k n)) (omega arith)) (alone-step u _ g)
 
     module _ (l : 2 ≤ n - i) {v : ℕ} (ev : v ≡ unitAt w first (k + (i + 1))) where
       step-more : unitStep u v true ≡ unitStepAt (unitsIn w first k n) i
@@ -89,12 +88,10 @@ module _ (w : List ℕ) (first k n i : ℕ) {u : ℕ} (h : i < n) (eu : u ≡ un
           rw (unit-of w first k n i h, unit-of w first k n (i + 1) (omega arith), lt-ltb (i + 1) (length (unitsIn w first k n)) (omega arith), eu, ev)
 
       pub step-pair : (isHighSurrogate u && isLowSurrogate v) ≡ true → Scalar (pairValue u v) 2 ≡ unitStepAt (unitsIn w first k n) i
-      unfolding unitStep
-      step-pair p = rw (sym step-more) (simp (g, p))
+      step-pair p = pair-step u v g p ∙ step-more
 
       pub step-unpaired : (isHighSurrogate u && isLowSurrogate v) ≡ false → Unpaired ≡ unitStepAt (unitsIn w first k n) i
-      unfolding unitStep
-      step-unpaired p = rw (sym step-more) (simp (g, p))
+      step-unpaired p = unpaired-step u v g p ∙ step-more
 
 -- a text has at most three bytes a unit
 pub text-most : (w : List ℕ) (first k n : ℕ) {t : List ℕ} → textOf (unitsIn w first k n) ≡ some t → length t ≤ 3 * n

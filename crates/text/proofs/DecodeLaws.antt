@@ -2,7 +2,7 @@
 -- measure and write the text.
 -- Assumes nothing.
 use mathlib.Core.Path.{_≡_, refl, _∙_, sym, ap, subst}
-use mathlib.Core.Bool.{Bool, true, false, cond, not, _&&_}
+use mathlib.Core.Bool.{Bool, true, false, cond, not, _&&_, and-false}
 use mathlib.Core.List.{List, [], _∷_}
 use mathlib.Core.Option.{Option, some, none, Option·map, Option·getD, Option·some-injective}
 use Prim.Native.Nat.{ℕ, suc, _+_, _-_, _*_, _^_, _≤_, _<_}
@@ -72,6 +72,26 @@ module _ (u l : ℕ) (more : Bool) where
           unfolding unitStep
           step-pair h =
               simp (surrogate, is-high, not-false more two, within-yes 0xDC00 0xDFFF l (ltb-false l 0xDC00 least) (ltb-false 0xDFFF l h))
+
+-- ---- a step by what the units are
+
+pub single-step : (u l : ℕ) (more : Bool) → isSurrogate u ≡ false → Scalar u 1 ≡ unitStep u l more
+unfolding unitStep
+single-step u l more g = simp g
+
+module _ (u l : ℕ) (g : isSurrogate u ≡ true) where
+  -- no unit is left
+  pub alone-step : Unpaired ≡ unitStep u l false
+  unfolding unitStep
+  alone-step = simp (g, and-false)
+
+  pub pair-step : (isHighSurrogate u && isLowSurrogate l) ≡ true → Scalar (pairValue u l) 2 ≡ unitStep u l true
+  unfolding unitStep
+  pair-step p = simp (g, p)
+
+  pub unpaired-step : (isHighSurrogate u && isLowSurrogate l) ≡ false → Unpaired ≡ unitStep u l true
+  unfolding unitStep
+  unpaired-step p = simp (g, p)
 
 -- ---- what a step says of the scalar values that are left
 
