@@ -3,7 +3,7 @@ use crate::error::MatError;
 use crate::utf8::highest;
 use crate::utf8::is_text_from;
 use crate::utf8::put_all;
-use crate::utf8::put_bytes;
+use crate::utf8::put_utf8;
 use crate::utf8::whole_length;
 use crate::utf16::TextReply;
 ghost use mathlib.Core.Path.{_≡_};
@@ -238,7 +238,7 @@ fn put_import(bytes: &[u8], points: &[u16], out: &mut [u8])
             i += 1;
             continue;
         }
-        o = put_bytes(point_in(points, bytes[i]), out, o);
+        o = put_utf8(point_in(points, bytes[i]), out, o);
         i += 1;
     }
 }

@@ -276,11 +276,11 @@ pub fn put_scalar(value: u32, out: &mut [u8], at: usize) -> usize
     if out.len() - n < at {
         return at;
     }
-    put_bytes(value, out, at)
+    put_utf8(value, out, at)
 }
 
 // The same where the bytes fit.
-pub(crate) fn put_bytes(value: u32, out: &mut [u8], at: usize) -> usize
+pub(crate) fn put_utf8(value: u32, out: &mut [u8], at: usize) -> usize
     requires { ⌜ (value < 1114112) × (at + length (utf8 value) ≤ length (now out)) ⌝ }
     ensures { λ r. ⌜ r ≡ at + length (utf8 value) ⌝ }
     ensures { λ _. ⌜ now (out .exit) ≡ put (now (out .entry)) at (utf8 value) ⌝ }
@@ -494,11 +494,11 @@ fn put_repaired(s: &[u8], out: &mut [u8], at: usize) -> usize
     loop {
         match step_at(s, i) {
             Step::Scalar { value, next } => {
-                o = put_bytes(value, out, o);
+                o = put_utf8(value, out, o);
                 i = next;
             }
             Step::IllFormed { next } => {
-                o = put_bytes(0xFFFD, out, o);
+                o = put_utf8(0xFFFD, out, o);
                 i = next;
             }
             Step::End => {
