@@ -1,4 +1,5 @@
 // UTF-8 as the Unicode Standard, chapter 3, has it: one decoding step, well-formedness, and the repaired text of ill-formed bytes.
+use crate::copy::copy_bytes;
 ghost use mathlib.Core.Path.{_≡_};
 ghost use mathlib.Core.Option.{some};
 ghost use Prim.Native.Nat.{_+_, _/_, _≤_, _<_};
@@ -508,18 +509,6 @@ fn put_repaired(s: &[u8], out: &mut [u8], at: usize) -> usize
     }
 }
 
-// Writes s to the start of out, which is long enough for it.
-pub(crate) fn put_all(s: &[u8], out: &mut [u8])
-    requires { ⌜ length (now s) ≤ length (now out) ⌝ }
-    ensures { λ _. ⌜ now (out .exit) ≡ put (now (out .entry)) 0 (now (s .entry)) ⌝ }
-{
-    let mut i: usize = 0;
-    while i < s.len() {
-        out[i] = s[i];
-        i += 1;
-    }
-}
-
 // What writing a repaired text came to: its bytes and the number of replaced parts, or the bytes that it needs.
 pub enum LossyReply {
     Written { bytes: usize, replaced: usize },
@@ -537,7 +526,7 @@ pub fn write_lossy(s: &[u8], out: &mut [u8]) -> LossyReply
                 return LossyReply::TooShort(bytes);
             }
             if replaced == 0 {
-                put_all(s, out);
+                copy_bytes(s, out, 0);
                 return LossyReply::Written { bytes, replaced };
             }
             put_repaired(s, out, 0);
