@@ -6,15 +6,15 @@ use mathlib.Core.Bool.{true}
 use mathlib.Core.List.{List, [], append-nil}
 use Prim.Native.Nat.{ℕ, zero, suc, _-_, _/_, _%_, _≤_, _<_}
 use native.Mathlib.Omega.{arith}
-use borrow.Author.Tests.{le-leb, lt-ltb, eq-eqb, leb-true}
-use lib.Dec.{leb, eqb}
+use borrow.Author.Tests.{le-leb, lt-ltb, eq-eqb}
 use lib.ListN.{length, getD, replicate, length-replicate, getD-replicate}
-use Rattle.text.specs.Result.{ok, check}
-use Rattle.text.proofs.ResultLaws.{check-passed, seq-passed, bind-passed, each-holds}
+use Rattle.text.specs.Result.{ok}
+use Rattle.text.proofs.ResultLaws.{each-holds}
 use Rattle.text.proofs.SameLaws.{same-refl}
-use Rattle.writer.specs.Array.{Array, noArray, Accepted, payload, arrayOf, checkShape, payloads, payloadSpans}
+use Rattle.writer.specs.Array.{Array, noArray, Accepted, payload, payloads, payloadSpans}
 use Rattle.writer.specs.FileWrapper.{fileWrapper}
-use Rattle.writer.specs.Spans.{offsetAt, endAt, checkStrings}
+use Rattle.writer.specs.Spans.{offsetAt, endAt}
+use Rattle.writer.proofs.ArrayLaws.{array-passed}
 use Rattle.writer.proofs.LayoutLaws.{length-payload-spans, payload-at, span-offset, span-end, payloads-within}
 use Rattle.reader.specs.Cells.{liesIn, isCell, checkDirectory, cellAt, cellOf}
 use Rattle.reader.specs.Decode.{anyName, stringName, idStrings, idsStrings, metadataStrings, stringClass, propertyStrings, triplesStrings, objectStrings}
@@ -27,15 +27,9 @@ use Rattle.reader.proofs.RoundTrip.{round-trip}
 
 module _ {a : Array} (w : Accepted a) where
   small : length (payload a) ≤ 2097152
-  unfolding arrayOf
   small =
-      let p = bind-passed (checkStrings (w .text) (w .spans)) _ (w .is) in
-      let b : Array = record { dims = w .dims; strings = p .0 } in
-      let q = seq-passed (checkShape (w .dims) (length (p .0))) _ (p .1 .1) in
-      let r = check-passed 32 (leb (length (payload b)) 2097152) (length (payload b)) (ok b) (q .1 .1) in
-      let e = r .1 in
-      let i : b ≡ a = cc in
-      rw i at (leb-true (length (payload b)) 2097152 (r .0))
+      let p = array-passed (w .dims) (w .text) (w .spans) (w .is) in
+      rw (p .is) (p .words)
 
   pub accepted-decodes : decodePayload (payload a) ≡ ok (a .strings)
   accepted-decodes =

@@ -12,20 +12,21 @@ use borrow.Author.Tests.{le-leb, eq-eqb, eqb-true, not-true, not-false}
 use lib.ListN.{length, getD, take, drop, length-append, length-drop, length-map, take-append-drop, List·getD-append}
 use lib.Seq.{drop-cons, drop-drop, drop-at, take-at, getD-drop, getD-take, ext-getD, length-take-le}
 use Rattle.text.specs.Buffer.{same}
-use Rattle.text.specs.Result.{Result, ok, error, checkEach, foldCount, foldRange, isOk, valuesOf, mapResult}
+use Rattle.text.specs.Result.{Result, ok, error, foldCount, foldRange, isOk, valuesOf, mapResult}
 use Rattle.text.specs.Utf8.{unitsOf}
 use Rattle.text.specs.Utf16.{theText}
 use Rattle.text.specs.declared.error.Failure.{Failure}
 use Rattle.text.specs.declared.error.MatError.{MatError}
-use Rattle.text.proofs.ResultLaws.{reply-is, seq-passed, checkEach-passed}
+use Rattle.text.proofs.ResultLaws.{reply-is}
 use Rattle.text.proofs.SameLaws.{same-refl, same-is}
 use Rattle.text.proofs.TestLaws.{and-is, not-both, equal-or}
 use Rattle.text.proofs.Utf16Laws.{text-units}
-use Rattle.writer.specs.Array.{Array, Accepted, stringUnits, unitCounts, allUnits, stringWords, payload, checkProduct, checkShape, arrayOf}
+use Rattle.writer.specs.Array.{Array, Accepted, stringUnits, unitCounts, allUnits, stringWords, payload, arrayOf}
 use Rattle.writer.specs.Spans.{offsetAt, lengthAt, stringAt, stringsFrom, isSome, checkString, checkStrings}
 use Rattle.writer.specs.Words.{packed}
+use Rattle.writer.proofs.ShapeLaws.{shape-is}
 use Rattle.writer.proofs.WordLaws.{length-packed}
-use Rattle.reader.specs.Saveobj.{dimCount, dimsProduct, unitCount, unitsBefore, storedUnits, storedStrings, checkDims, decodePayload, decodedArray, isCanonicalPayload, joined, spansFrom}
+use Rattle.reader.specs.Saveobj.{dimCount, unitCount, unitsBefore, storedUnits, storedStrings, decodePayload, decodedArray, isCanonicalPayload, joined, spansFrom}
 use Rattle.reader.specs.Saveobj as saveobj
 use Rattle.reader.specs.SaveobjStages.{layoutOf, checkLayout, countsOf, stringsReplyOf, UnitsChecked}
 use Rattle.reader.specs.Units.{unitsIn, isPacked}
@@ -33,7 +34,7 @@ use Rattle.reader.specs.declared.saveobj.LayoutReply.{LayoutReply}
 use Rattle.reader.specs.declared.saveobj.LayoutReply.the-variants as layout
 use Rattle.reader.specs.declared.saveobj.StringsReply.{StringsReply}
 use Rattle.reader.specs.declared.saveobj.StringsReply.the-variants as reply
-use Rattle.reader.proofs.HeaderLaws.{HeaderPassed, header-passed, productFits}
+use Rattle.reader.proofs.HeaderLaws.{HeaderPassed, header-passed}
 use Rattle.reader.proofs.LengthLaws.{count-missing, count-given, units-most}
 use Rattle.reader.proofs.PackedLaws.{units-drop, units-append, repacked, padded}
 use Rattle.reader.proofs.PayloadLaws.{PayloadPassed, strings-passed, payload-passed, LayoutPassed, layout-refused, laid-out, counts-are, error-is}
@@ -73,29 +74,6 @@ cut-again ss f =
     let k : length (spansFrom 0 ss) / 2 ≡ length ss = omega (arith, length-spans 0 ss) in
     let z : length ss - 0 ≡ length ss = omega arith in
     simp (eq-eqb (length (spansFrom 0 ss) % 2) 0 (omega (arith, length-spans 0 ss)), k, z, r .0) (ap ok (r .1))
-
--- ---- dimensions
-
--- those that pass 25 pass 31
-module _ (p ds : List ℕ) (n : ℕ) (f : (i : ℕ) → i < length ds → getD p (2 + i) 0 ≡ getD ds i 0) where
-  products : (k i : ℕ) → i + k ≡ length ds → ((j : ℕ) → j < length ds → productFits p j ≡ true)
-      → foldCount (checkProduct ds n) i k (dimsProduct p i) ≡ ok (dimsProduct p (length ds))
-  unfolding foldCount checkProduct dimsProduct
-  products zero i e g =
-      let s : i ≡ length ds = omega arith in
-      ap (λ (j : ℕ). ok (dimsProduct p j)) s
-  products (suc k) i e g =
-      let l : i < length ds = omega arith in
-      rw (sym (f i l), g i l) (products k (suc i) (omega arith) g)
-
-  shape-of : checkDims p (length ds) ≡ ok n → checkShape ds n ≡ ok tt
-  unfolding checkShape checkDims foldRange dimsProduct
-  shape-of e =
-      let q = seq-passed (checkEach 25 (productFits p) 0 (length ds)) _ e in
-      let w = q .1 .1 in
-      let m : dimsProduct p (length ds) ≡ n = cc in
-      rw (products (length ds - 0) 0 (omega arith) (λ j h. checkEach-passed 25 (productFits p) 0 (length ds) (q .1 .0) j (omega arith) h), m)
-      (rw (eq-eqb n n refl))
 
 -- ---- a payload that decodes
 
@@ -274,16 +252,12 @@ module _ (p : List ℕ) (base n : ℕ) (d : Decoded p base n) where
       let h : i < n = omega (arith, length-stored p base n 0 n) in
       ap isSome (ap unitsOf (stored-at p base n i h) ∙ string-well-formed i h)
 
-  shape : checkShape dims n ≡ ok tt
-  shape =
-      shape-of p dims n (λ i l. sym (getD-take (dimCount p) (drop 2 p) i 0 (omega (arith, length-dims)) ∙ getD-drop 2 p i 0)) (rw length-dims (d .header .product))
-
   array-of : length (payload (decodedArray p)) ≤ 2097152 → arrayOf dims (joined ss) (spansFrom 0 ss) ≡ ok (decodedArray p)
   unfolding arrayOf
   array-of l =
       let a : Array = record { dims = dims; strings = ss } in
       let e : a ≡ decodedArray p = ap (λ (rs : List (List ℕ)). record { dims = dims; strings = rs }) (sym (d .strings .is)) in
-      rw (cut-again ss well-formed, length-stored p base n 0 n, shape, e, le-leb (length (payload (decodedArray p))) 2097152 l)
+      rw (cut-again ss well-formed, length-stored p base n 0 n, shape-is dims n (d .header .product), e, le-leb (length (payload (decodedArray p))) 2097152 l)
 
   accepted-of : payload (decodedArray p) ≡ p → Accepted (decodedArray p)
   accepted-of e = record { dims = dims; text = joined ss; spans = spansFrom 0 ss; is = array-of (rw e (d .header .most)) }

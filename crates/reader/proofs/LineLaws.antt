@@ -11,11 +11,11 @@ use borrow.Author.Tests.{lt-ltb, le-ltb, le-leb, lt-leb, ne-eqb}
 use lib.Dec.{leb, ltb, eqb}
 use lib.ListN.{length, getD, take, drop, set, length-append, length-set, take-append-drop}
 use lib.Seq.{length-take-le, take-all, take-suc, take-set-le, set-split, drop-at, append-snoc}
-use Rattle.text.specs.Buffer.{put, Puts}
+use Rattle.text.specs.Buffer.{put, Puts, Places}
 use Rattle.text.specs.Result.{ok, needPlace}
 use Rattle.text.specs.declared.error.MatError.{MatError}
 use Rattle.text.specs.declared.error.MatError.the-variants.{OutputTooShort}
-use Rattle.text.proofs.BufferLaws.{put-none, put-front}
+use Rattle.text.proofs.BufferLaws.{put-none, put-front, places-fits, places-front}
 use Rattle.text.proofs.ByteLaws.{stores}
 use Rattle.text.proofs.TestLaws.{cond-both, within-yes, within-under, within-over}
 use Rattle.writer.proofs.FileWrapperLaws.{puts-then, puts-length}
@@ -69,11 +69,10 @@ module _ (b : ℕ) {r : Bool} (is : r ≡ isPlain b) where
     pub plain-puts : r ≡ true → Puts d at (escape b) (at + 1) (set d at b)
     plain-puts e = rw (escape-plain e) (record { end = refl; buffer = stores (b ∷ []) d at (omega (arith, plain-room e)) })
 
-    pub hex-room : r ≡ false → at + 3 ≤ length d
-    hex-room e = omega (arith, size-hex e)
-
-    pub hex-puts : r ≡ false → {x y : ℕ} → x ≡ hexDigit (b / 16) → y ≡ hexDigit (b % 16) → {o : ℕ} {d' : List ℕ} → Puts d at (0x5C ∷ x ∷ y ∷ []) o d' → Puts d at (escape b) o d'
-    hex-puts e p q w = rw (escape-hex e) (rw (p, q) at w)
+    pub hex-puts : r ≡ false → {x y : ℕ} → x ≡ hexDigit (b / 16) → y ≡ hexDigit (b % 16) → {o : ℕ} {d' : List ℕ} → Places d at (0x5C ∷ x ∷ y ∷ []) o d' → Puts d at (escape b) o d'
+    hex-puts e {x} {y} p q w =
+        let f = places-fits d at (0x5C ∷ x ∷ y ∷ []) (omega (arith, size-hex e)) w in
+        rw (escape-hex e) (rw (p, q) at f)
 
 -- a space, the byte after 126, the quote and the backslash
 escape-examples : escaped (0x20 ∷ 0x7F ∷ 0x22 ∷ 0x5C ∷ []) ≡ 0x5C ∷ 0x32 ∷ 0x30 ∷ 0x5C ∷ 0x37 ∷ 0x66 ∷ 0x5C ∷ 0x32 ∷ 0x32 ∷ 0x5C ∷ 0x35 ∷ 0x63 ∷ []
@@ -290,6 +289,9 @@ text-written w out h p =
     let t : leb (length w) (length out) ≡ true = le-leb (length w) (length out) h in
     record { reply = simp t (ap ok (omega (arith, p .end))); buffer = simp t (p .buffer ∙ put-front out w) }
 
+pub text-copied : (w out : List ℕ) → length w ≤ length out → {n : ℕ} {out' : List ℕ} → Places out 0 w n out' → WritesText (ok w) out (name.Text n) out'
+text-copied w out h p = text-written w out h (places-fits out 0 w (omega arith) p)
+
 module _ (start end out : List ℕ) (v : ℕ) {n : ℕ} (s : CountsDigits v n) where
   size : length (numbered start v end) ≡ length start + n + length end
   size = omega (arith, length-append (start ++ decimal v) end, length-append start (decimal v))
@@ -299,10 +301,14 @@ module _ (start end out : List ℕ) (v : ℕ) {n : ℕ} (s : CountsDigits v n) w
   numbered-short f h = text-short (numbered start v end) out (omega (arith, size)) h
 
   pub numbered-written : length start + n + length end ≤ length out → {a b r : ℕ} {d d' d'' : List ℕ}
-      → Puts out 0 start a d → Puts d a (decimal v) b d' → Puts d' b end r d'' → WritesText (ok (numbered start v end)) out (name.Text r) d''
-  numbered-written h p q w =
+      → Places out 0 start a d → Puts d (length start) (decimal v) b d' → Places d' b end r d'' → WritesText (ok (numbered start v end)) out (name.Text r) d''
+  numbered-written h {d = d} {d' = d'} p q w =
+      let f : Puts out 0 start (length start) d = record { end = omega arith; buffer = places-front out start (omega arith) p } in
+      let g = puts-then f q (omega arith) in
+      let l = length-append start (decimal v) in
+      let k : length d' ≡ length out = puts-length g (omega arith) in
       text-written (numbered start v end) out (omega (arith, size))
-      (puts-then (puts-then p q (omega arith)) w (omega (arith, length-append start (decimal v))))
+      (puts-then g (places-fits d' _ end (omega (arith, g .end)) w) (omega arith))
 
 -- a text that fits is written
 module _ (t out : List ℕ) (h : length t ≤ length out) {r : NameReply} {out' : List ℕ} where

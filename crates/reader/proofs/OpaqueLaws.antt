@@ -1,37 +1,21 @@
--- Checks 17 to 21: the loop of `dimension_product`, the outcomes of `parse_opaque_metadata`, and reading what is written for an id.
+-- Checks 17 to 21: the outcomes of `parse_opaque_metadata`, and reading what is written for an id.
 -- Assumes nothing.
-use Prim.Native.Nat.{ℕ, _+_, _-_, _*_, _^_, _≤_, _<_}
-use mathlib.Core.Path.{_≡_, refl, sym, _∙_}
-use mathlib.Core.Bool.{Bool, true, false, not}
+use Prim.Native.Nat.{ℕ, _+_, _-_, _≤_, _<_}
+use mathlib.Core.Path.{_≡_, refl, sym}
 use mathlib.Core.List.{List}
 use native.Mathlib.Omega.{arith}
-use borrow.Author.Tests.{le-leb, lt-leb, eq-eqb, ne-eqb, leb-true, eqb-true, not-true, not-false}
-use lib.Dec.{leb, ltb, eqb}
-use lib.ListN.{length, getD}
-use Rattle.text.specs.Result.{ok, error, foldCount, foldRange}
-use Rattle.text.proofs.ProductLaws.{Multiplying, product-below, multiply-turn, multiply-stop, multiply-last}
-use Rattle.text.proofs.ResultLaws.{reply-is, check-passed, bind-passed}
+use borrow.Author.Tests.{le-leb, lt-leb, eq-eqb, ne-eqb, leb-true, eqb-true}
+use lib.Dec.{leb, eqb}
+use lib.ListN.{length, getD, take, drop}
+use Rattle.text.specs.Product.{productOf, productFrom}
+use Rattle.text.specs.Result.{ok, error}
+use Rattle.text.specs.declared.convert.Product.{Product}
+use Rattle.text.specs.declared.convert.Product.the-variants.{Of, OverflowAt}
+use Rattle.text.proofs.ProductLaws.{product-is, product-passed}
+use Rattle.text.proofs.ResultLaws.{check-passed}
 use Rattle.writer.specs.Metadata.{objectMetadata}
-use Rattle.reader.specs.Opaque.{checkDimension, opaqueMetadata}
-use Rattle.reader.specs.Stages.{productOf}
+use Rattle.reader.specs.Opaque.{opaqueMetadata}
 use Rattle.reader.specs.declared.opaque.OpaqueMetadata.{OpaqueMetadata}
-use Rattle.reader.specs.declared.opaque.Product.{Product}
-use Rattle.reader.specs.declared.opaque.Product.the-variants.{Of, OverflowAt}
-
--- ---- the loop
-
-module _ (w : List ℕ) (n : ℕ) {product i : ℕ} (m : Multiplying (checkDimension w) n product i) where
-  module _ {r : Bool} (h : i < n) (e : r ≡ ltb (product * getD w (2 + i) 0) (2 ^ 64)) where
-    pub dimension-turn : not r ≡ false → Multiplying (checkDimension w) n (product * getD w (2 + i) 0) (i + 1)
-    unfolding checkDimension
-    dimension-turn t = multiply-turn _ _ m h (rw (sym e ∙ not-false r t)) (product-below product (getD w (2 + i) 0) e t)
-
-    pub dimension-stop : not r ≡ true → productOf 20 (OverflowAt i) ≡ foldRange (checkDimension w) 0 n 1
-    unfolding checkDimension
-    dimension-stop t = sym (multiply-stop _ _ m h (rw (sym e ∙ not-true r t)))
-
-  pub dimension-last : n ≤ i → productOf 20 (Of product) ≡ foldRange (checkDimension w) 0 n 1
-  dimension-last h = sym (multiply-last _ _ m h)
 
 -- ---- the outcomes
 
@@ -55,10 +39,10 @@ module _ (w : List ℕ) where
         unfolding opaqueMetadata
         opaque-truncated h = simp (le-leb, eq-eqb, lt-leb)
 
-        module _ (inside : 2 + getD w 1 0 + 1 ≤ length w) {x : Product} (p : productOf 20 x ≡ foldRange (checkDimension w) 0 (getD w 1 0) 1) where
+        module _ (inside : 2 + getD w 1 0 + 1 ≤ length w) {x : Product} (p : x ≡ productOf (take (2 + getD w 1 0 - 2) (drop 2 w))) where
           pub opaque-overflow : {i : ℕ} → x ≡ OverflowAt i → error (record { number = 20; place = i }) ≡ opaqueMetadata w
           unfolding opaqueMetadata
-          opaque-overflow g = simp (le-leb, eq-eqb, reply-is (productOf 20) p g)
+          opaque-overflow g = simp (le-leb, eq-eqb, product-is 2 (getD w 1 0) w p g)
 
           module _ {product : ℕ} (g : x ≡ Of product) where
             pub opaque-mismatch : (length w - 3 - getD w 1 0 ≡ product → ⊥) → error (record { number = 21; place = length w }) ≡ opaqueMetadata w
@@ -67,7 +51,7 @@ module _ (w : List ℕ) where
                 simp (
                   le-leb,
                   eq-eqb,
-                  reply-is (productOf 20) p g,
+                  product-is 2 (getD w 1 0) w p g,
                   ne-eqb (length w) (2 + getD w 1 0 + product + 1) (λ e. h (omega arith)),
                 )
 
@@ -78,7 +62,7 @@ module _ (w : List ℕ) where
                 simp (
                   le-leb,
                   eq-eqb,
-                  reply-is (productOf 20) p g,
+                  product-is 2 (getD w 1 0) w p g,
                   eq-eqb (length w) (2 + getD w 1 0 + product + 1) (omega arith),
                   e,
                 )
@@ -99,7 +83,7 @@ opaque-passed w {m} e =
     let most = check-passed 17 (leb (length w) 65536) (length w) _ (least .1) in
     let magic = check-passed 18 (eqb (getD w 0 0) 0xDD000000) (getD w 0 0) _ (most .1) in
     let dims = check-passed 19 (leb (2 + getD w 1 0 + 1) (length w)) (getD w 1 0) _ (magic .1) in
-    let product = bind-passed (foldRange (checkDimension w) 0 (getD w 1 0) 1) _ (dims .1) in
+    let product = product-passed 20 (productOf (take (getD w 1 0) (drop 2 w))) _ (dims .1) in
     let n = product .0 in
     let size = check-passed 21 (eqb (length w) (2 + getD w 1 0 + n + 1)) (length w) _ (product .1 .1) in
     let k = size .1 in
@@ -111,7 +95,7 @@ opaque-passed w {m} e =
 
 -- one id, at position 4, of class 1
 pub written-reads : (id : ℕ) → opaqueMetadata (objectMetadata id) ≡ ok (record { «first_id» = 4; ids = 1; «class_id» = 1 })
-unfolding opaqueMetadata checkDimension foldRange foldCount
+unfolding opaqueMetadata productOf productFrom
 written-reads id = refl
 
 -- and it is that id

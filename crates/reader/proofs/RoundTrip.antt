@@ -1,39 +1,38 @@
 -- What is written for an array is read back as its strings, whatever words follow.
 -- Assumes nothing.
 use mathlib.Core.Path.{_≡_, refl, _∙_, sym, ap, subst}
+use mathlib.Core.Bool.{true}
 use mathlib.Core.List.{List, [], _∷_, _++_, append-assoc, append-nil, flatMap}
 use mathlib.Core.Option.{some}
 use Prim.Native.Nat.{ℕ, zero, suc, _+_, _-_, _*_, _/_, _^_, _≤_, _<_}
-use native.Mathlib.Numerals.{add-one}
 use native.Mathlib.Omega.{arith}
-use borrow.Author.Tests.{le-leb, lt-ltb, eqb-true, ne-eqb}
-use lib.Dec.{ltb, eqb}
+use borrow.Author.Tests.{le-leb, lt-ltb, ne-eqb}
 use lib.ListN.{length, getD, take, drop, length-append, length-map, List·getD-append}
-use lib.Seq.{getD-append-add, split-at, take-suc, take-length, drop-cons, drop-length}
-use Rattle.text.specs.Result.{ok, check, checkEach, foldCount, foldRange}
+use lib.Seq.{getD-append-add, split-at, take-at, take-suc, take-length, drop-cons, drop-length}
+use Rattle.text.specs.Result.{ok}
 use Rattle.text.specs.Unicode.{Below}
 use Rattle.text.specs.Utf8.{unitsOf}
 use Rattle.text.specs.Utf16.{textOf}
-use Rattle.text.proofs.ResultLaws.{check-passed, bind-passed, checkEach-done, checkEach-yes, check-is, each-holds}
+use Rattle.text.proofs.ResultLaws.{each-holds}
 use Rattle.text.proofs.ScalarLaws.{below-append}
 use Rattle.text.proofs.TestLaws.{within-yes}
 use Rattle.text.proofs.Utf16Laws.{units-text, units-below}
-use Rattle.writer.specs.Array.{Array, stringUnits, unitCounts, allUnits, stringWords, payload, checkProduct, checkShape, arrayOf}
+use Rattle.writer.specs.Array.{Array, stringUnits, unitCounts, allUnits, stringWords, payload, isShape, arrayOf}
 use Rattle.writer.specs.Spans.{stringAt, stringsFrom, isSome}
 use Rattle.writer.specs.Words.{packed}
 use Rattle.writer.proofs.ArrayLaws.{array-passed, strings-well-formed}
+use Rattle.writer.proofs.ShapeLaws.{shape-product}
 use Rattle.writer.proofs.StringLaws.{length-strings, all-units-append}
 use Rattle.writer.proofs.WordLaws.{length-packed}
-use Rattle.reader.specs.Saveobj.{dimsProduct, unitCount, unitsBefore, storedUnits, storedStrings, checkDims, checkHeader, checkSum, checkLengths, checkStrings, decodePayload}
+use Rattle.reader.specs.Saveobj.{storedDims, unitCount, unitsBefore, storedUnits, storedStrings, checkHeader, checkSum, checkLengths, checkStrings, decodePayload}
 use Rattle.reader.specs.Units.{unitsIn}
-use Rattle.reader.proofs.HeaderLaws.{productFits}
 use Rattle.reader.proofs.LengthLaws.{sumFits}
 use Rattle.reader.proofs.PackedLaws.{part-within}
 use Rattle.reader.proofs.StringLaws.{isPaired}
 
 -- what writing asks of an array, with x the words that follow it
 pub record Writable (a : Array) (x : List ℕ) : Type 0 where
-  pub shape : checkShape (a .dims) (length (a .strings)) ≡ ok tt
+  pub shape : isShape (a .dims) (length (a .strings)) ≡ true
   pub well-formed : (i : ℕ) → i < length (a .strings) → unitsOf (getD (a .strings) i []) ≡ some (stringUnits (getD (a .strings) i []))
   pub most : length (payload a ++ x) ≤ 2097152
 
@@ -60,33 +59,6 @@ unfolding flatMap
 all-below [] f = tt
 all-below (s ∷ ss) f =
     below-append 65536 (stringUnits s) (allUnits ss) (units-below s (stringUnits s) (f 0 (omega arith))) (all-below ss (λ i h. f (suc i) (omega arith)))
-
--- ---- the product of the dimensions
-
-module _ (w ds : List ℕ) (n : ℕ) (f : (i : ℕ) → i < length ds → getD w (2 + i) 0 ≡ getD ds i 0) where
-  products : (k i : ℕ) {p : ℕ} → i + k ≡ length ds → foldCount (checkProduct ds n) i k (dimsProduct w i) ≡ ok p
-      → (checkEach 25 (productFits w) i (length ds) ≡ ok tt) × (p ≡ dimsProduct w (length ds))
-  unfolding foldCount checkProduct dimsProduct
-  products zero i {p} e g =
-      let s : i ≡ length ds = omega arith in
-      let d : p ≡ dimsProduct w i = cc in
-      (checkEach-done 25 (productFits w) i (length ds) (omega arith), d ∙ ap (dimsProduct w) s)
-  products (suc k) i {p} e g =
-      let q = bind-passed (checkProduct ds n i (dimsProduct w i)) (foldCount (checkProduct ds n) (suc i) k) g in
-      let d = f i (omega arith) in
-      let t = check-passed 31 (ltb (dimsProduct w i * getD ds i 0) (2 ^ 64)) n (ok (dimsProduct w i * getD ds i 0)) (q .1 .0) in
-      let u = t .1 in
-      let v : q .0 ≡ dimsProduct w i * getD w (2 + i) 0 = rw d (cc) in
-      let r = products k (suc i) (omega arith) (rw v at (q .1 .1)) in
-      (checkEach-yes 25 (productFits w) i (length ds) (omega arith) (rw d (t .0)) ∙ rw (add-one i) (r .0), r .1)
-
-  dims-checked : checkShape ds n ≡ ok tt → checkDims w (length ds) ≡ ok n
-  unfolding checkShape checkDims foldRange dimsProduct
-  dims-checked e =
-      let q = bind-passed (foldRange (checkProduct ds n) 0 (length ds) 1) (λ p. check 31 (eqb p n) n) e in
-      let r = products (length ds - 0) 0 (omega arith) (q .1 .0) in
-      let s : q .0 ≡ n = eqb-true (q .0) n (check-is 31 (eqb (q .0) n) n (q .1 .1)) in
-      rw (r .0) (ap ok (sym (r .1) ∙ s))
 
 -- ---- the whole payload
 
@@ -129,12 +101,8 @@ module _ (a : Array) (x : List ℕ) (h : Writable a x) where
   most : length w ≤ 2097152
   most = subst (λ (v : List ℕ). length v ≤ 2097152) split (h .most)
 
-  dim-at : (i : ℕ) → i < length ds → getD w (2 + i) 0 ≡ getD ds i 0
-  dim-at i l =
-      let k : 2 + i ≡ suc (suc i) = omega arith in
-      rw k
-      (List·getD-append (ds ++ unitCounts ss) (packed (allUnits ss) ++ x) 0 i (omega (arith, length-append ds (unitCounts ss)))
-      ∙ List·getD-append ds (unitCounts ss) 0 i l)
+  dims-are : storedDims w ≡ ds
+  dims-are = ap (take (length ds)) (append-assoc ds (unitCounts ss) (packed (allUnits ss) ++ x)) ∙ take-at ds _ (length ds) refl
 
   -- the number of units of all strings is small
   few : length (allUnits ss) < 2 ^ 64 - 1
@@ -168,7 +136,8 @@ module _ (a : Array) (x : List ℕ) (h : Writable a x) where
       simp (
         within-yes 2 2097152 (length w) (omega (arith, length-words)) most,
         le-leb base (length w) (omega (arith, length-words)),
-        dims-checked w ds n dim-at (h .shape),
+        dims-are,
+        shape-product ds n (h .shape),
         le-leb (base + n) (length w) (omega (arith, length-words)),
       )
 

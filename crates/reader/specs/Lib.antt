@@ -14,7 +14,6 @@ pub mod Queries
 pub mod Replies
 pub mod Saveobj
 pub mod SaveobjStages
-pub mod Stages
 pub mod StringObjectStages
 pub mod Units
 pub mod Wire

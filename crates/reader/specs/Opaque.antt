@@ -1,11 +1,12 @@
 -- Opaque metadata (01's word list): "magic, number of dimensions, dimensions, ids, class". Checks 17 to 21.
 -- Assumes nothing.
-use Prim.Native.Nat.{ℕ, _+_, _*_, _^_}
+use Prim.Native.Nat.{ℕ, _+_}
 use mathlib.Core.List.{List}
-use lib.Dec.{leb, ltb, eqb}
-use lib.ListN.{length, getD}
+use lib.Dec.{leb, eqb}
+use lib.ListN.{length, getD, take, drop}
 use Rattle.text.specs.Errors.{failureOf}
-use Rattle.text.specs.Result.{Result, ok, error, check, foldRange, _>>_, _>>=_}
+use Rattle.text.specs.Product.{productOf, checkProduct}
+use Rattle.text.specs.Result.{Result, ok, error, check, _>>_, _>>=_}
 use Rattle.reader.specs.declared.opaque.OpaqueMetadata.{OpaqueMetadata}
 use Rattle.reader.specs.declared.opaque.OpaqueReply.{OpaqueReply}
 use Rattle.reader.specs.declared.opaque.OpaqueReply.the-variants as reply
@@ -14,12 +15,6 @@ use Rattle.reader.specs.declared.opaque.OpaqueReply.the-variants as repl
 abbrev pub dimensions : List ℕ → ℕ
 dimensions w = getD w 1 0
 
--- 20 for dimension i: "Does their product, taken left to right, stay below 2^64 at each step?"
-unfoldable pub checkDimension : List ℕ → ℕ → ℕ → Result ℕ
-checkDimension w i p = do
-  check 20 (ltb (p * getD w (2 + i) 0) (2 ^ 64)) i
-  ok (p * getD w (2 + i) 0)
-
 -- "it replies with the position of its first id, their number and the class"
 unfoldable pub opaqueMetadata : List ℕ → Result OpaqueMetadata
 opaqueMetadata w = do
@@ -27,7 +22,7 @@ opaqueMetadata w = do
   check 17 (leb (length w) 65536) (length w)
   check 18 (eqb (getD w 0 0) 0xDD000000) (getD w 0 0)
   check 19 (leb (2 + dimensions w + 1) (length w)) (dimensions w)
-  ids ← foldRange (checkDimension w) 0 (dimensions w) 1
+  ids ← checkProduct 20 (productOf (take (dimensions w) (drop 2 w)))
   check 21 (eqb (length w) (2 + dimensions w + ids + 1)) (length w)
   ok (record { «first_id» = 2 + dimensions w; ids = ids; «class_id» = getD w (2 + dimensions w + ids) 0 })
 

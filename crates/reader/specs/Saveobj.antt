@@ -6,6 +6,7 @@ use mathlib.Core.List.{List, [], _∷_, flatMap}
 use lib.Dec.{leb, ltb, eqb}
 use lib.ListN.{length, getD, take, drop}
 use Rattle.text.specs.Buffer.{same}
+use Rattle.text.specs.Product.{productOf, checkProduct}
 use Rattle.text.specs.Result.{Result, ok, check, checkEach, checkOutput, isOk, valuesOf, _>>_, _>>=_}
 use Rattle.text.specs.Unicode.{within}
 use Rattle.text.specs.Utf16.{textOf, theText}
@@ -18,10 +19,9 @@ use Rattle.reader.specs.Units.{unitsIn}
 abbrev pub dimCount : List ℕ → ℕ
 dimCount payload = getD payload 1 0
 
--- the product of the first i dimensions; "No dimensions means product 1"
-unfoldable pub dimsProduct : List ℕ → ℕ → ℕ
-dimsProduct payload zero = 1
-dimsProduct payload (suc i) = dimsProduct payload i * getD payload (2 + i) 0
+-- the dimensions
+abbrev pub storedDims : List ℕ → List ℕ
+storedDims payload = take (dimCount payload) (drop 2 payload)
 
 -- the code units of string i, where the lengths begin at word base; "Length 2^64 − 1 marks a missing string: empty, no units"
 unfoldable pub unitCount : List ℕ → ℕ → ℕ → ℕ
@@ -46,12 +46,6 @@ pub record Header : Type 0 where
   pub base : ℕ
   pub strings : ℕ
 
--- 25 "Product as in 20?", which is "Does their product, taken left to right, stay below 2^64 at each step?", for the first n dimensions
-unfoldable pub checkDims : List ℕ → ℕ → Result ℕ
-checkDims payload n = do
-  checkEach 25 (λ i. ltb (dimsProduct payload (suc i)) (2 ^ 64)) 0 n
-  ok (dimsProduct payload n)
-
 -- 22 to 26: what stands before the lengths
 unfoldable pub checkHeader : List ℕ → Result Header
 checkHeader payload = do
@@ -61,7 +55,8 @@ checkHeader payload = do
   check 23 (eqb (getD payload 0 0) 1) (getD payload 0 0)
   -- 24 "Do the dimensions fit?"
   check 24 (leb (2 + dimCount payload) (length payload)) (dimCount payload)
-  product ← checkDims payload (dimCount payload)
+  -- 25 "Product as in 20?"
+  product ← checkProduct 25 (productOf (storedDims payload))
   -- 26 "Do the lengths fit?"
   check 26 (leb (2 + dimCount payload + product) (length payload)) product
   ok (record { base = 2 + dimCount payload; strings = product })
@@ -93,7 +88,7 @@ decodePayload payload = do
 
 -- the dimensions and the strings of a payload that decodes
 abbrev pub decodedArray : List ℕ → Array
-decodedArray payload = record { dims = take (dimCount payload) (drop 2 payload); strings = valuesOf (decodePayload payload) }
+decodedArray payload = record { dims = storedDims payload; strings = valuesOf (decodePayload payload) }
 
 -- a payload in canonical form (01's written form): it passes 22–29, and is "exactly what writing gives for its own dimensions and strings"
 unfoldable pub isCanonicalPayload : List ℕ → Bool

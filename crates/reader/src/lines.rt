@@ -1,5 +1,6 @@
 // The lines of a listing, part by part.
 use crate::names::NameReply;
+use text::copy::copy_bytes;
 use text::error::MatError;
 ghost use mathlib.Core.Path.{_≡_};
 ghost use Prim.Native.Nat.{_+_, _^_, _≤_, _<_};
@@ -70,7 +71,7 @@ fn put_escape(byte: u8, out: &mut [u8], at: usize) -> usize
         return at + 1;
     }
     let shown = [b'\\', hex_digit(byte / 16), hex_digit(byte % 16)];
-    put_bytes(&shown, out, at)
+    copy_bytes(&shown, out, at)
 }
 
 // The length that a name's bytes need. Three bytes for each can pass 64 bits: then it is the largest number, which no output has.
@@ -145,19 +146,6 @@ fn put_decimal(value: u32, out: &mut [u8], at: usize) -> usize
     end
 }
 
-// Copies bytes into out from index at on, and returns the index after them.
-fn put_bytes(bytes: &[u8], out: &mut [u8], at: usize) -> usize
-    requires { ⌜ at + length (now bytes) ≤ length (now out) ⌝ }
-    ensures { λ r. ⌜ Puts (now (out .entry)) at (now (bytes .entry)) r (now (out .exit)) ⌝ }
-{
-    let mut i: usize = 0;
-    while i < bytes.len() {
-        out[at + i] = bytes[i];
-        i += 1;
-    }
-    at + bytes.len()
-}
-
 // A word at the start of out.
 fn write_word(word: &[u8], out: &mut [u8]) -> NameReply
     ensures { λ r. ⌜ WritesText (ok (now (word .entry))) (now (out .entry)) r (now (out .exit)) ⌝ }
@@ -166,7 +154,7 @@ fn write_word(word: &[u8], out: &mut [u8]) -> NameReply
     if out.len() < need {
         return NameReply::Error(MatError::OutputTooShort(need as u64));
     }
-    NameReply::Text(put_bytes(word, out, 0))
+    NameReply::Text(copy_bytes(word, out, 0))
 }
 
 // A number between two words, at the start of out. The words are short, so that the need fits 64 bits.
@@ -178,9 +166,9 @@ fn write_numbered(start: &[u8], value: u32, end: &[u8], out: &mut [u8]) -> NameR
     if out.len() < need {
         return NameReply::Error(MatError::OutputTooShort(need as u64));
     }
-    let number = put_bytes(start, out, 0);
-    let rest = put_decimal(value, out, number);
-    NameReply::Text(put_bytes(end, out, rest))
+    copy_bytes(start, out, 0);
+    let rest = put_decimal(value, out, start.len());
+    NameReply::Text(copy_bytes(end, out, rest))
 }
 
 // A part of a line at the start of out.

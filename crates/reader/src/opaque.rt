@@ -1,14 +1,12 @@
 // Opaque metadata: which objects a dataset names.
+use text::convert::Product;
 use text::convert::product_fits;
 use text::convert::to_usize;
 use text::error::MatError;
 use writer::string_object::MCOS_MAGIC_NUMBER;
 ghost use mathlib.Core.Path.{_≡_};
-ghost use Prim.Native.Nat.{_+_, _≤_};
-ghost use lib.ListN.{length};
-ghost use Rattle.text.specs.Result.{foldRange};
-ghost use Rattle.reader.specs.Opaque.{checkDimension, opaqueMetadata, opaqueReplyOf};
-ghost use Rattle.reader.specs.Stages.{productOf};
+ghost use Rattle.text.specs.Product.{productOf};
+ghost use Rattle.reader.specs.Opaque.{opaqueMetadata, opaqueReplyOf};
 
 // The most words of opaque metadata.
 pub const MAX_OPAQUE_WORDS: usize = 65536;
@@ -44,13 +42,13 @@ pub fn parse_opaque_metadata(metadata: &[u32]) -> OpaqueReply
     if words < 2 + dimensions + 1 {
         return OpaqueReply::Error(MatError::OpaqueMetadataDimensionsTruncated(dimensions as u64));
     }
-    match dimension_product(metadata, dimensions) {
+    let first_id = 2 + dimensions;
+    match dimension_product(&metadata[2..first_id]) {
         Product::Of(product) => {
             // the product can be close to 2^64, where a sum with it would wrap
             if (words - 3 - dimensions) as u64 != product {
                 return OpaqueReply::Error(MatError::OpaqueMetadataSizeMismatch(words as u64));
             }
-            let first_id = 2 + dimensions;
             let ids = to_usize(product);
             OpaqueReply::Parsed(OpaqueMetadata {
                 first_id,
@@ -64,25 +62,18 @@ pub fn parse_opaque_metadata(metadata: &[u32]) -> OpaqueReply
     }
 }
 
-// What multiplying dimensions came to: their product, or the first dimension at which it passes 64 bits.
-pub(crate) enum Product {
-    Of(u64),
-    OverflowAt(usize),
-}
-
-// Check 20.
-fn dimension_product(metadata: &[u32], dimensions: usize) -> Product
-    requires { ⌜ 2 + dimensions ≤ length (now metadata) ⌝ }
-    ensures { λ r. ⌜ productOf 20 r ≡ foldRange (checkDimension (now (metadata .entry))) 0 dimensions 1 ⌝ }
+// As `checked_product`, for dimensions of 32 bits.
+fn dimension_product(dims: &[u32]) -> Product
+    ensures { λ r. ⌜ r ≡ productOf (now (dims .entry)) ⌝ }
 {
     let mut product: u64 = 1;
     let mut i: usize = 0;
-    while i < dimensions {
-        let dimension = metadata[2 + i] as u64;
-        if !product_fits(product, dimension) {
+    while i < dims.len() {
+        let dim = dims[i] as u64;
+        if !product_fits(product, dim) {
             return Product::OverflowAt(i);
         }
-        product *= dimension;
+        product *= dim;
         i += 1;
     }
     Product::Of(product)

@@ -4,7 +4,8 @@ use crate::units::is_pair;
 use crate::units::is_surrogate;
 use crate::units::put_text;
 use crate::units::unit_at;
-use text::convert::product_fits;
+use text::convert::Product;
+use text::convert::checked_product;
 use text::convert::to_usize;
 use text::error::MatError;
 use writer::string_object::MATLAB_STRING_SAVEOBJ_VERSION;
@@ -13,35 +14,11 @@ ghost use mathlib.Core.Path.{_≡_};
 ghost use Prim.Native.Nat.{_+_, _≤_, _<_};
 ghost use lib.ListN.{length};
 ghost use Rattle.text.specs.Result.{mapResult};
-ghost use Rattle.reader.specs.Saveobj.{unitCount, storedStrings, checkDims, checkHeader, checkSum, checkStrings, decodePayload, isCanonicalPayload};
+ghost use Rattle.reader.specs.Saveobj.{unitCount, storedStrings, checkHeader, checkSum, checkStrings, decodePayload, isCanonicalPayload};
 ghost use Rattle.reader.specs.SaveobjStages.{numberOf, headerOf, layoutOf, checkLayout, countsOf, stringsReplyOf, UnitsChecked, StringsFit, WritesStrings, FitsAt, WritesAt, DecodesStrings};
 
 // The length that marks a missing string.
 const MISSING: u64 = 0xFFFF_FFFF_FFFF_FFFF;
-
-// A number that was checked, or the refusal.
-pub(crate) enum NumberReply {
-    Number(u64),
-    Error(MatError),
-}
-
-// Check 25: the product of n dimensions.
-fn dims_product(payload: &[u64], n: usize) -> NumberReply
-    requires { ⌜ 2 + n ≤ length (now payload) ⌝ }
-    ensures { λ r. ⌜ numberOf r ≡ checkDims (now (payload .entry)) n ⌝ }
-{
-    let mut product: u64 = 1;
-    let mut i: usize = 0;
-    while i < n {
-        let dim = payload[2 + i];
-        if !product_fits(product, dim) {
-            return NumberReply::Error(MatError::PayloadProductOverflow(i as u64));
-        }
-        product *= dim;
-        i += 1;
-    }
-    NumberReply::Number(product)
-}
 
 // The index of the first length and the number of strings, or the refusal.
 pub(crate) enum HeaderReply {
@@ -66,15 +43,15 @@ fn read_header(payload: &[u64]) -> HeaderReply
         return HeaderReply::Error(MatError::PayloadDimensionsTruncated(dims as u64));
     }
     let base = 2 + dims;
-    match dims_product(payload, dims) {
-        NumberReply::Number(product) => {
+    match checked_product(&payload[2..base]) {
+        Product::Of(product) => {
             let strings = to_usize(product);
             if len - base < strings {
                 return HeaderReply::Error(MatError::PayloadLengthsTruncated(product));
             }
             HeaderReply::Header { base, strings }
         }
-        NumberReply::Error(e) => HeaderReply::Error(e),
+        Product::OverflowAt(i) => HeaderReply::Error(MatError::PayloadProductOverflow(i as u64)),
     }
 }
 
@@ -88,6 +65,12 @@ fn unit_count(payload: &[u64], base: usize, i: usize) -> usize
         return 0;
     }
     to_usize(count)
+}
+
+// A number that was checked, or the refusal.
+pub(crate) enum NumberReply {
+    Number(u64),
+    Error(MatError),
 }
 
 // Check 27: the code units of n strings.

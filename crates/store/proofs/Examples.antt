@@ -4,10 +4,11 @@ use Prim.Native.Nat.{ℕ}
 use mathlib.Core.Path.{_≡_, refl, ap, _∙_}
 use mathlib.Core.List.{List, [], _∷_, _++_, flatMap}
 use lib.ListN.{replicate}
+use Rattle.text.specs.Product.{productFrom, productOf}
 use Rattle.text.specs.Result.{Result, ok, error, foldRange, foldCount}
 use Rattle.text.specs.Unicode.{utf16}
 use Rattle.text.specs.Utf8.{table, find, sequenceLength, secondRange, hasIn, matched, valueAt, wholeAt, nextAt, stepAt, partsCount, partsFrom, scalarsOf}
-use Rattle.writer.specs.Array.{Array, stringWords, payload, checkProduct, checkShape, arrayOf, payloads, payloadSpans}
+use Rattle.writer.specs.Array.{Array, stringWords, payload, isShape, arrayOf, payloads, payloadSpans}
 use Rattle.writer.specs.FileWrapper.{u32s, entriesFrom, region, regions, offsetsFrom, fileWrapper}
 use Rattle.writer.specs.Spans.{stringsFrom, checkString, checkStrings}
 use Rattle.writer.specs.Words.{value, packed}
@@ -46,7 +47,7 @@ refusals =
     ∷ []
 
 refusals-answers : model (lengthsOf start) refusals .replies ≡ ok tt ∷ refused 8 2 ∷ refused 8 0 ∷ refused 30 0 ∷ refused 31 0 ∷ refused 34 18 ∷ []
-unfolding start refusals modelFrom candidate tried checkLengths arrayOf checkStrings checkString checkShape checkProduct foldRange foldCount stringsFrom payload payloads payloadSpans stringWords packed value fileWrapper offsetsFrom regions region entriesFrom u32s flatMap utf16 scalarsOf partsFrom partsCount stepAt wholeAt nextAt valueAt matched hasIn sequenceLength secondRange find table
+unfolding start refusals modelFrom candidate tried checkLengths arrayOf checkStrings checkString isShape productOf productFrom foldRange foldCount stringsFrom payload payloads payloadSpans stringWords packed value fileWrapper offsetsFrom regions region entriesFrom u32s flatMap utf16 scalarsOf partsFrom partsCount stepAt wholeAt nextAt valueAt matched hasIn sequenceLength secondRange find table
 refusals-answers = refl
 
 -- so a run of the edits answers, and what it leaves holds the one array
@@ -71,7 +72,7 @@ arrays =
     ∷ []
 
 replacements-list : model (lengthsOf start) replacements .last ≡ arrays
-unfolding start replacements arrays modelFrom candidate tried checkLengths arrayOf checkStrings checkString checkShape checkProduct foldRange foldCount stringsFrom payload payloads payloadSpans stringWords packed value fileWrapper offsetsFrom regions region entriesFrom u32s flatMap utf16 scalarsOf partsFrom partsCount stepAt wholeAt nextAt valueAt matched hasIn sequenceLength secondRange find table
+unfolding start replacements arrays modelFrom candidate tried checkLengths arrayOf checkStrings checkString isShape productOf productFrom foldRange foldCount stringsFrom payload payloads payloadSpans stringWords packed value fileWrapper offsetsFrom regions region entriesFrom u32s flatMap utf16 scalarsOf partsFrom partsCount stepAt wholeAt nextAt valueAt matched hasIn sequenceLength secondRange find table
 replacements-list = refl
 
 replacements-store : counted (execute start replacements .last) ≡ serialize arrays

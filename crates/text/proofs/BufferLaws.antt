@@ -7,8 +7,8 @@ use native.Mathlib.Nat.{add-zero, zero-add}
 use native.Mathlib.Omega.{arith}
 use borrow.Author.Tests.{le-leb, lt-leb, leb-true, leb-false}
 use lib.Dec.{leb}
-use lib.ListN.{length, getD, take, drop, set, length-set, length-append, length-drop, take-append-drop}
-use lib.Seq.{length-take-le, take-all, take-at, drop-at, set-at, drop-cons, drop-drop, append-snoc, take-suc, drop-append-le, slice}
+use lib.ListN.{length, getD, take, drop, set, length-append, length-drop, take-append-drop}
+use lib.Seq.{length-take-le, take-at, drop-at, set-at, drop-cons, drop-drop, append-snoc, take-suc, drop-append-le, slice}
 use Rattle.text.specs.Buffer.{put, Puts, placed, placedEnd, Places}
 use Rattle.text.proofs.TestLaws.{either}
 
@@ -126,35 +126,6 @@ ends all d₀ d o f =
     ∙ ap (λ (r : List ℕ). all ++ r) (f .beyond)
     ∙ ap (λ (k : ℕ). all ++ drop k d₀) n
 
--- ---- a loop that copies s to the start of a buffer: i elements are copied
-pub record Copying (s d₀ d : List ℕ) (i : ℕ) : Type 0 where
-  pub bound : i ≤ length s
-  pub room : length s ≤ length d₀
-  pub same : length d ≡ length d₀
-  pub so-far : d ≡ put d₀ 0 (take i s)
-
-pub copy-start : (s d : List ℕ) → length s ≤ length d → Copying s d d 0
-copy-start s d h = record { bound = omega arith; room = h; same = refl; so-far = sym (put-none d 0) }
-
-pub copy-on : {s d₀ d : List ℕ} {i : ℕ} → Copying s d₀ d i → i < length s → Copying s d₀ (set d i (getD s i 0)) (i + 1)
-copy-on {s} {d₀} {d} {i} c h =
-    let n : length (take i s) ≡ i = length-take-le i s (c .bound) in
-    let z : 0 + length (take i s) ≡ i = omega (arith, n) in
-    let m : i + 1 ≡ suc i = omega arith in
-    let r = c .room in
-    record {
-      bound = omega arith;
-      room = r;
-      same = length-set d i (getD s i 0) ∙ c .same;
-      so-far =
-          ap (λ (x : List ℕ). set x i (getD s i 0)) (c .so-far)
-          ∙ (rw z at (put-one d₀ 0 (take i s) (getD s i 0) (omega arith)))
-          ∙ ap (put d₀ 0) (sym (ap (λ (k : ℕ). take k s) m ∙ take-suc s i 0 h));
-    }
-
-pub copy-end : {s d₀ d : List ℕ} {i : ℕ} → Copying s d₀ d i → length s ≤ i → d ≡ put d₀ 0 s
-copy-end {s} {d₀} {d} {i} c h = c .so-far ∙ ap (put d₀ 0) (take-all i s h)
-
 -- ---- a list written where it fits
 
 module _ (d : List ℕ) (i : ℕ) (w : List ℕ) where
@@ -175,6 +146,9 @@ module _ (d : List ℕ) (i : ℕ) (w : List ℕ) where
     end = simp (le-leb (i + length w) (length d) h) at (p .end);
     buffer = simp (le-leb (i + length w) (length d) h) at (p .buffer);
   }
+
+pub places-front : (d w : List ℕ) → length w ≤ length d → {e : ℕ} {d' : List ℕ} → Places d 0 w e d' → d' ≡ put d 0 w
+places-front d w h p = places-fits d 0 w (omega arith) p .buffer
 
 pub placed-nothing : (d : List ℕ) (i : ℕ) → Places d i [] i d
 placed-nothing d i =

@@ -10,7 +10,7 @@ use native.Mathlib.Omega.{arith}
 use borrow.Author.Tests.{lt-leb, le-leb, lt-ltb, le-ltb, eq-eqb, eqb-true, eqb-false, not-true, not-false}
 use lib.Dec.{ltb, eqb}
 use lib.ListN.{length, getD, set}
-use Rattle.text.specs.Buffer.{put}
+use Rattle.text.specs.Buffer.{put, Places}
 use Rattle.text.specs.Errors.{failureOf}
 use Rattle.text.specs.Latin9.{codePoint, byteOf, bytesFrom, latin9Bytes, exportLatin9}
 use Rattle.text.specs.Latin9Stages.{byteReplyOf, sizeBy, Stands, BytesFit}
@@ -27,7 +27,7 @@ use Rattle.text.specs.declared.utf16.TextReply.{TextReply}
 use Rattle.text.specs.declared.utf16.TextReply.the-variants.{Text, Error}
 use Rattle.text.specs.declared.utf8.Step.{Step}
 use Rattle.text.specs.declared.utf8.Step.the-variants.{Scalar, IllFormed, End}
-use Rattle.text.proofs.BufferLaws.{SoFar, Splits, begins, fits-next, goes-on, ends, put-front}
+use Rattle.text.proofs.BufferLaws.{SoFar, Splits, begins, fits-next, goes-on, ends, put-front, places-front}
 use Rattle.text.proofs.ByteLaws.{size-1, size-2, size-3, stores}
 use Rattle.text.proofs.CountLaws.{broken-here, scalar-here, whole-is}
 use Rattle.text.proofs.Latin9Laws.{byte-back, byte-is, ascii-point, point-top, far-none, gave-way, exported-text, own-text}
@@ -406,13 +406,9 @@ module _ (t out : List ℕ) {x : TextReply} (e : textReplyOf x ≡ mapResult len
           (w ∙ put-front out (valuesOf (latin9Bytes t)))
 
       -- the text itself is written where its bytes are as many
-      module _ (z : n ≡ length t) where
-        pub export-own-room : length t ≤ length out
-        export-own-room = omega arith
-
-        pub export-own : {out' : List ℕ} → out' ≡ put out 0 t → WritesText (exportLatin9 t) out (Text n) out'
-        export-own w =
-            let a = accepted in
-            let s = exported-text t (a .0) in
-            let o = own-text (valuesOf (latin9Bytes t)) (sym (ap length s) ∙ sym z ∙ sym (a .1)) in
-            export-written (w ∙ ap (put out 0) (s ∙ o))
+      pub export-own : n ≡ length t → {o : ℕ} {out' : List ℕ} → Places out 0 t o out' → WritesText (exportLatin9 t) out (Text n) out'
+      export-own z w =
+          let a = accepted in
+          let s = exported-text t (a .0) in
+          let o = own-text (valuesOf (latin9Bytes t)) (sym (ap length s) ∙ sym z ∙ sym (a .1)) in
+          export-written (places-front out t (omega arith) w ∙ ap (put out 0) (s ∙ o))

@@ -10,7 +10,7 @@ use borrow.Author.Tests.{lt-leb, le-leb, leb-true}
 use lib.Dec.{leb, ltb, eqb}
 use lib.ListN.{length, getD, set, drop, length-append, drop-of-length-le}
 use lib.Seq.{drop-cons}
-use Rattle.text.specs.Buffer.{put}
+use Rattle.text.specs.Buffer.{put, Places}
 use Rattle.text.specs.Errors.{failureOf}
 use Rattle.text.specs.Latin9.{exceptions, pointIn, codePoint, latin9Text, importLatin9}
 use Rattle.text.specs.Replies.{textReplyOf, WritesText}
@@ -20,7 +20,7 @@ use Rattle.text.specs.declared.error.MatError.{MatError}
 use Rattle.text.specs.declared.error.MatError.the-variants.{OutputTooShort}
 use Rattle.text.specs.declared.utf16.TextReply.{TextReply}
 use Rattle.text.specs.declared.utf16.TextReply.the-variants.{Text, Error}
-use Rattle.text.proofs.BufferLaws.{SoFar, Splits, begins, fits-next, goes-on, ends, put-front}
+use Rattle.text.proofs.BufferLaws.{SoFar, Splits, begins, fits-next, goes-on, ends, put-front, places-front}
 use Rattle.text.proofs.ByteLaws.{stores}
 use Rattle.text.proofs.Latin9Laws.{ascii-point, text-length, own-text}
 use Rattle.text.proofs.ReplyLaws.{writes, told-text, told-error}
@@ -185,8 +185,5 @@ module _ (bs text : List ℕ) {x : TextReply} (e : textReplyOf x ≡ mapResult l
       is-own : latin9Text bs ≡ bs
       is-own = own-text bs (accepted .1 ∙ z)
 
-      pub import-own-room : length bs ≤ length text
-      import-own-room = omega (arith, accepted .0, accepted .1)
-
-      pub import-own : {text' : List ℕ} → text' ≡ put text 0 bs → WritesText (importLatin9 bs) text (Text n) text'
-      import-own w = import-written (w ∙ ap (put text 0) (sym is-own))
+      pub import-own : {o : ℕ} {text' : List ℕ} → Places text 0 bs o text' → WritesText (importLatin9 bs) text (Text n) text'
+      import-own w = import-written (places-front text bs (omega (arith, accepted .0, accepted .1)) w ∙ ap (put text 0) (sym is-own))

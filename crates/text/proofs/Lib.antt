@@ -1,6 +1,7 @@
 pub mod AsciiLaws
 pub mod BufferLaws
 pub mod ByteLaws
+pub mod CopyLaws
 pub mod CountLaws
 pub mod DecodeLaws
 pub mod SizeLaws

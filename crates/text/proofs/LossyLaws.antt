@@ -24,7 +24,7 @@ use Rattle.text.specs.Replies.{validityPlace, CountsUnits, lossyLength, 
 use Rattle.text.specs.Result.{needPlace}
 use Rattle.text.specs.Unicode.{isScalar, utf8, utf8s}
 use Rattle.text.specs.Utf8.{Part, sequence, illFormed, stepAt, partsFrom, scalarsOf, firstIllFormed, repaired, replacedIn, scalars8, lossy}
-use Rattle.text.proofs.BufferLaws.{SoFar, Splits, put-front, fits-next, goes-on, placed-not, placed-whole, fits-from, begins-from, ends-from}
+use Rattle.text.proofs.BufferLaws.{SoFar, Splits, put-front, fits-next, goes-on, placed-not, placed-whole, places-front, fits-from, begins-from, ends-from}
 use Rattle.text.proofs.CountLaws.{valid-units, valid-place}
 use Rattle.text.proofs.LeadLaws.{ascii}
 use Rattle.text.proofs.PartLaws.{Advances, step-reads, step-breaks, step-end, parts-end, parts-scalar, parts-ill-formed, parts-rule}
@@ -324,11 +324,8 @@ module _ (s out : List ℕ) {x : LossyLength} (is : x ≡ lossyLength s) where
       is-own : s ≡ lossy s
       is-own = own-repair s (sym (length-is s is e .1) ∙ z)
 
-      pub own-fits : length s ≤ length out
-      own-fits = omega (arith, lossy-room, ap length is-own)
-
-      pub lossy-own : {out' : List ℕ} → out' ≡ put out 0 s → WritesLossy s out (lossyReply.Written n r) out'
-      lossy-own w = lossy-put (w ∙ ap (put out 0) is-own)
+      pub lossy-own : {o : ℕ} {out' : List ℕ} → Places out 0 s o out' → WritesLossy s out (lossyReply.Written n r) out'
+      lossy-own w = lossy-put (places-front out s (omega (arith, lossy-room, ap length is-own)) w ∙ ap (put out 0) is-own)
 
   pub lossy-past : length out < 2 ^ 64 - 1 → x ≡ measure.TooLong → WritesLossy s out (lossyReply.TooShort 18446744073709551615) out
   lossy-past h e =

@@ -1,15 +1,20 @@
--- Products below 2^64: one by a division, and a loop that multiplies.
+-- Products below 2^64: one by a division, and those of dimensions by a loop.
 -- Assumes nothing.
-use Prim.Native.Nat.{ℕ, _+_, _*_, _/_, _^_, _≤_, _<_}
+use Prim.Native.Nat.{ℕ, _+_, _-_, _*_, _/_, _^_, _≤_, _<_}
 use mathlib.Core.Path.{_≡_, refl, sym, _∙_}
 use mathlib.Core.Bool.{Bool, true, false, not}
+use mathlib.Core.List.{List}
 use native.Mathlib.Nat.{mul-zero, le-div-iff-mul-le, div-lt-iff-lt-mul}
+use native.Mathlib.Numerals.{add-one}
 use native.Mathlib.Omega.{arith}
-use borrow.Author.Tests.{leb-true, leb-false, ltb-true, lt-ltb, le-ltb, not-false}
+use borrow.Author.Tests.{leb-true, leb-false, ltb-true, lt-ltb, le-ltb, not-true, not-false}
 use lib.Dec.{leb, ltb}
-use Rattle.text.specs.Result.{Result, ok, error, foldRange}
-use Rattle.text.specs.declared.error.Failure.{Failure}
-use Rattle.text.proofs.ResultLaws.{foldRange-done, foldRange-yes, foldRange-no}
+use lib.ListN.{length, getD, take, drop}
+use lib.Seq.{drop-cons, drop-length}
+use Rattle.text.specs.Product.{productFrom, productOf, checkProduct}
+use Rattle.text.specs.Result.{Result, ok, _>>=_}
+use Rattle.text.specs.declared.convert.Product.{Product}
+use Rattle.text.specs.declared.convert.Product.the-variants.{Of, OverflowAt}
 use Rattle.text.proofs.TestLaws.{either}
 
 -- ---- a product, by a division
@@ -33,23 +38,51 @@ module _ (a b : ℕ) where
 pub product-below : {r : Bool} (a b : ℕ) → r ≡ ltb (a * b) (2 ^ 64) → not r ≡ false → a * b < 2 ^ 64
 product-below {r} a b e t = ltb-true (a * b) (2 ^ 64) (sym e ∙ not-false r t)
 
--- ---- a loop that multiplies: the factors before i passed the check f, and this is their product
+-- ---- a loop that multiplies dimensions: this is the product of those before dimension i
 
-pub record Multiplying (f : ℕ → ℕ → Result ℕ) (n product i : ℕ) : Type 0 where
-  pub bound : i ≤ n
+pub record Multiplying (dims : List ℕ) (product i : ℕ) : Type 0 where
+  pub bound : i ≤ length dims
   pub below : product < 2 ^ 64
-  pub rest : foldRange f 0 n 1 ≡ foldRange f i n product
+  pub rest : productOf dims ≡ productFrom i product (drop i dims)
 
-module _ (f : ℕ → ℕ → Result ℕ) (n : ℕ) where
-  pub multiply-start : Multiplying f n 1 0
+module _ (dims : List ℕ) where
+  pub multiply-start : Multiplying dims 1 0
+  unfolding productOf
   multiply-start = record { bound = omega arith; below = omega arith; rest = refl }
 
-  module _ {product i : ℕ} (m : Multiplying f n product i) where
-    pub multiply-turn : {next : ℕ} → i < n → f i product ≡ ok next → next < 2 ^ 64 → Multiplying f n next (i + 1)
-    multiply-turn h e b = record { bound = omega arith; below = b; rest = m .rest ∙ foldRange-yes f i n product h e }
+  module _ {product i : ℕ} (m : Multiplying dims product i) where
+    module _ {r : Bool} (h : i < length dims) (e : r ≡ ltb (product * getD dims i 0) (2 ^ 64)) where
+      pub multiply-turn : not r ≡ false → Multiplying dims (product * getD dims i 0) (i + 1)
+      unfolding productFrom
+      multiply-turn t = record {
+        bound = omega arith;
+        below = product-below product (getD dims i 0) e t;
+        rest = rw add-one (rw (drop-cons dims i 0 h, sym e ∙ not-false r t) at (m .rest));
+      }
 
-    pub multiply-stop : {e : Failure} → i < n → f i product ≡ error e → foldRange f 0 n 1 ≡ error e
-    multiply-stop h e = m .rest ∙ foldRange-no f i n product h e
+      pub multiply-stop : not r ≡ true → OverflowAt i ≡ productOf dims
+      unfolding productFrom
+      multiply-stop t = sym (rw (drop-cons dims i 0 h, sym e ∙ not-true r t) at (m .rest))
 
-    pub multiply-last : n ≤ i → foldRange f 0 n 1 ≡ ok product
-    multiply-last h = m .rest ∙ foldRange-done f i n product h
+    pub multiply-last : length dims ≤ i → Of product ≡ productOf dims
+    unfolding productFrom
+    multiply-last h =
+        let s : i ≡ length dims = omega (arith, m .bound) in
+        sym (rw (s, drop-length dims) at (m .rest))
+
+pub ruleset multiplies = (multiply-start, product-below, multiply-turn, multiply-stop, multiply-last)
+
+-- ---- what callers know of a product
+
+-- the n dimensions from index a on, which the code cuts out by their end
+pub product-is : {x y : Product} (a n : ℕ) (w : List ℕ) → x ≡ productOf (take (a + n - a) (drop a w)) → x ≡ y → productOf (take n (drop a w)) ≡ y
+product-is a n w e g =
+    let k : a + n - a ≡ n = omega arith in
+    sym (rw k at e) ∙ g
+
+pub product-passed : (number : ℕ) (x : Product) {A : Type 0} (f : ℕ → Result A) {b : A} → (checkProduct number x >>= f) ≡ ok b
+    → (p : ℕ) × ((x ≡ Of p) × (f p ≡ ok b))
+product-passed number (Of p) f e = (p, (refl, e))
+product-passed number (OverflowAt i) f {b} e =
+    let z : _≡_ {A = ℕ} 0 1 = cc in
+    absurd (omega arith)

@@ -1,9 +1,9 @@
 // ISO 8859-15, also called Latin-9, which displays take: a text as one byte a character, and such bytes as a text again.
+use crate::copy::copy_bytes;
 use crate::error::MatError;
 use crate::utf8::highest;
 use crate::utf8::is_text_from;
-use crate::utf8::put_all;
-use crate::utf8::put_bytes;
+use crate::utf8::put_utf8;
 use crate::utf8::whole_length;
 use crate::utf16::TextReply;
 ghost use mathlib.Core.Path.{_≡_};
@@ -173,7 +173,7 @@ pub fn export_latin9(text: &[u8], out: &mut [u8]) -> TextReply
             }
             // A text with as many bytes as characters is ASCII.
             if n == text.len() {
-                put_all(text, out);
+                copy_bytes(text, out, 0);
                 return TextReply::Text(n);
             }
             put_export(text, out);
@@ -238,7 +238,7 @@ fn put_import(bytes: &[u8], points: &[u16], out: &mut [u8])
             i += 1;
             continue;
         }
-        o = put_bytes(point_in(points, bytes[i]), out, o);
+        o = put_utf8(point_in(points, bytes[i]), out, o);
         i += 1;
     }
 }
@@ -251,7 +251,7 @@ pub fn import_latin9(bytes: &[u8], text: &mut [u8]) -> TextReply
         TextReply::Text(n) => {
             // Bytes that have a byte each are ASCII.
             if n == bytes.len() {
-                put_all(bytes, text);
+                copy_bytes(bytes, text, 0);
                 return TextReply::Text(n);
             }
             put_import(bytes, &CODE_POINTS, text);

@@ -1,5 +1,6 @@
 // Text as the Unicode Standard has it, and the refusals that every call of the library answers with.
 pub mod convert;
+pub mod copy;
 pub mod error;
 pub mod latin9;
 pub mod utf16;

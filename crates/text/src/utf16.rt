@@ -1,6 +1,6 @@
 // UTF-16 as the Unicode Standard, chapter 3, has it: one decoding step, and the UTF-8 text of code units.
 use crate::error::MatError;
-use crate::utf8::put_bytes;
+use crate::utf8::put_utf8;
 use crate::utf8::utf8_size;
 ghost use mathlib.Core.Path.{_≡_};
 ghost use mathlib.Core.Option.{Option·map};
@@ -93,7 +93,7 @@ fn put_text(units: &[u16], out: &mut [u8])
     while i < units.len() {
         match step_at(units, i) {
             UnitStep::Scalar { value, units: n } => {
-                o = put_bytes(value, out, o);
+                o = put_utf8(value, out, o);
                 i += n;
             }
             UnitStep::Unpaired => {

@@ -1,4 +1,5 @@
 // UTF-8 as the Unicode Standard, chapter 3, has it: one decoding step, well-formedness, and the repaired text of ill-formed bytes.
+use crate::copy::copy_bytes;
 ghost use mathlib.Core.Path.{_≡_};
 ghost use mathlib.Core.Option.{some};
 ghost use Prim.Native.Nat.{_+_, _/_, _≤_, _<_};
@@ -276,11 +277,11 @@ pub fn put_scalar(value: u32, out: &mut [u8], at: usize) -> usize
     if out.len() - n < at {
         return at;
     }
-    put_bytes(value, out, at)
+    put_utf8(value, out, at)
 }
 
 // The same where the bytes fit.
-pub(crate) fn put_bytes(value: u32, out: &mut [u8], at: usize) -> usize
+pub(crate) fn put_utf8(value: u32, out: &mut [u8], at: usize) -> usize
     requires { ⌜ (value < 1114112) × (at + length (utf8 value) ≤ length (now out)) ⌝ }
     ensures { λ r. ⌜ r ≡ at + length (utf8 value) ⌝ }
     ensures { λ _. ⌜ now (out .exit) ≡ put (now (out .entry)) at (utf8 value) ⌝ }
@@ -494,29 +495,17 @@ fn put_repaired(s: &[u8], out: &mut [u8], at: usize) -> usize
     loop {
         match step_at(s, i) {
             Step::Scalar { value, next } => {
-                o = put_bytes(value, out, o);
+                o = put_utf8(value, out, o);
                 i = next;
             }
             Step::IllFormed { next } => {
-                o = put_bytes(0xFFFD, out, o);
+                o = put_utf8(0xFFFD, out, o);
                 i = next;
             }
             Step::End => {
                 return o;
             }
         }
-    }
-}
-
-// Writes s to the start of out, which is long enough for it.
-pub(crate) fn put_all(s: &[u8], out: &mut [u8])
-    requires { ⌜ length (now s) ≤ length (now out) ⌝ }
-    ensures { λ _. ⌜ now (out .exit) ≡ put (now (out .entry)) 0 (now (s .entry)) ⌝ }
-{
-    let mut i: usize = 0;
-    while i < s.len() {
-        out[i] = s[i];
-        i += 1;
     }
 }
 
@@ -537,7 +526,7 @@ pub fn write_lossy(s: &[u8], out: &mut [u8]) -> LossyReply
                 return LossyReply::TooShort(bytes);
             }
             if replaced == 0 {
-                put_all(s, out);
+                copy_bytes(s, out, 0);
                 return LossyReply::Written { bytes, replaced };
             }
             put_repaired(s, out, 0);

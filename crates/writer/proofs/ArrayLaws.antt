@@ -2,6 +2,7 @@
 -- Assumes nothing.
 use Prim.Native.Nat.{ℕ, _+_, _-_, _/_, _%_, _≤_, _<_}
 use mathlib.Core.Path.{_≡_}
+use mathlib.Core.Bool.{true}
 use mathlib.Core.List.{List}
 use mathlib.Core.Option.{some}
 use native.Mathlib.Omega.{arith}
@@ -11,7 +12,7 @@ use lib.ListN.{length, length-append}
 use Rattle.text.specs.Result.{ok, check, foldRange, _>>_}
 use Rattle.text.specs.Utf8.{unitsOf}
 use Rattle.text.proofs.ResultLaws.{check-passed, seq-passed, bind-passed, foldRange-step}
-use Rattle.writer.specs.Array.{Array, stringUnits, stringWords, payload, checkShape, arrayOf}
+use Rattle.writer.specs.Array.{Array, stringUnits, stringWords, payload, isShape, checkShape, arrayOf}
 use Rattle.writer.specs.Spans.{endAt, stringAt, stringsIn, checkString, checkStrings}
 use Rattle.writer.specs.Stages.{arrayIn}
 use Rattle.writer.proofs.SpanLaws.{Passed, string-passed}
@@ -29,7 +30,7 @@ pub record ArrayPassed (dims text spans : List ℕ) (a : Array) : Type 0 where
   pub even : length spans % 2 ≡ 0
   pub end : ℕ
   pub strings : foldRange (checkString text spans) 0 (length spans / 2) 0 ≡ ok end
-  pub shape : checkShape dims (length spans / 2) ≡ ok tt
+  pub shape : isShape dims (length spans / 2) ≡ true
   pub words : length (payload (arrayIn dims text spans)) ≤ 2097152
   pub is : a ≡ arrayIn dims text spans
 
@@ -51,10 +52,10 @@ array-passed dims text spans {a} e =
     let p = bind-passed (checkStrings text spans) _ e in
     let q = strings-passed text spans (p .1 .0) in
     let rest : (checkShape dims (length spans / 2) >> (check 32 (leb w 2097152) w >> ok (arrayIn dims text spans))) ≡ ok a = rw (q .1 .1 .1, n) at (p .1 .1) in
-    let r = seq-passed (checkShape dims (length spans / 2)) (check 32 (leb w 2097152) w >> ok (arrayIn dims text spans)) rest in
-    let t = check-passed 32 (leb w 2097152) w (ok (arrayIn dims text spans)) (r .1 .1) in
+    let r = check-passed 31 (isShape dims (length spans / 2)) (length spans / 2) _ rest in
+    let t = check-passed 32 (leb w 2097152) w (ok (arrayIn dims text spans)) (r .1) in
     let k = t .1 in
-    record { even = q .0; end = q .1 .0; strings = q .1 .1 .0; shape = r .1 .0; words = leb-true w 2097152 (t .0); is = cc }
+    record { even = q .0; end = q .1 .0; strings = q .1 .1 .0; shape = r .0; words = leb-true w 2097152 (t .0); is = cc }
 
 pub array-is : (dims text spans : List ℕ) {a : Array} → arrayOf dims text spans ≡ ok a → a ≡ arrayIn dims text spans
 array-is dims text spans e = array-passed dims text spans e .is

@@ -4,15 +4,13 @@ use mathlib.Core.Path.{_≡_, refl, sym, ap, _∙_}
 use mathlib.Core.List.{List, [], _∷_, _++_, flatMap, append-assoc, append-nil}
 use Prim.Native.Nat.{ℕ, zero, suc, _+_, _-_, _*_, _/_, _%_, _^_, _≤_, _<_, min}
 use native.Mathlib.Nat.{add-zero, zero-add, suc-add, mul-suc}
-use native.Mathlib.Numerals.{add-one}
 use native.Mathlib.Omega.{arith}
 use borrow.Author.Tests.{le-leb, lt-leb}
-use lib.ListN.{length, getD, set, take, length-append, length-set}
-use lib.Seq.{length-take-le, take-all, take-suc}
-use Rattle.text.specs.Buffer.{put, Puts}
+use lib.ListN.{length, set, length-append}
+use Rattle.text.specs.Buffer.{put, Puts, Places}
 use Rattle.text.specs.Result.{ok, error}
 use Rattle.text.specs.declared.error.MatError.the-variants.{LimitExceeded, OutputTooShort}
-use Rattle.text.proofs.BufferLaws.{put-none, put-front, put-one, put-more, length-put}
+use Rattle.text.proofs.BufferLaws.{put-none, put-front, put-more, length-put, places-fits}
 use Rattle.text.proofs.ByteLaws.{stores}
 use Rattle.writer.specs.FileWrapper.{u32Bytes, u32s, nameHeap, classEntries, entry, zeroEntry, entriesFrom, region, regions, offsetsFrom, fileWrapper, buildMetadata}
 use Rattle.writer.specs.Replies.{BuildsMetadata}
@@ -151,34 +149,6 @@ module _ {ws : List ℕ} {a b : ℕ} {d d₁ : List ℕ} {at i₁ : ℕ} where
     unfolding u32s flatMap
     three-pairs e p q r room = rw e (puts-then (puts-then p q (omega (arith, ap length e))) r (omega (arith, ap length e)))
 
--- ---- copying bytes
-
--- the loop that copies s to d₀ from index at on: d as it is, with i bytes copied
-pub record Copying (s d₀ : List ℕ) (at : ℕ) (d : List ℕ) (i : ℕ) : Type 0 where
-  pub bound : i ≤ length s
-  pub same : length d ≡ length d₀
-  pub written : d ≡ put d₀ at (take i s)
-
-module _ {s d₀ : List ℕ} {at : ℕ} where
-  pub copy-start : Copying s d₀ at d₀ 0
-  copy-start = record { bound = omega arith; same = refl; written = sym (put-none d₀ at) }
-
-  pub copy-turn : {d : List ℕ} {i : ℕ} → Copying s d₀ at d i → i < length s → at + length s ≤ length d₀ → Copying s d₀ at (set d (at + i) (getD s i 0)) (i + 1)
-  copy-turn {d} {i} c h room =
-      let l : length (take i s) ≡ i = length-take-le i s (omega arith) in
-      record {
-        bound = omega arith;
-        same = length-set d (at + i) (getD s i 0) ∙ c .same;
-        written =
-            ap (λ (b : List ℕ). set b (at + i) (getD s i 0)) (c .written)
-            ∙ ap (λ (k : ℕ). set (put d₀ at (take i s)) (at + k) (getD s i 0)) (sym l)
-            ∙ put-one d₀ at (take i s) (getD s i 0) (omega arith)
-            ∙ ap (put d₀ at) (rw add-one (sym (take-suc s i 0 h)));
-      }
-
-  pub copy-last : {d : List ℕ} {i : ℕ} → Copying s d₀ at d i → length s ≤ i → Puts d₀ at s (at + length s) d
-  copy-last {d} {i} c h = record { end = refl; buffer = c .written ∙ ap (put d₀ at) (take-all i s h) }
-
 -- ---- writing a region
 
 -- the loop that writes the entries of n objects to d₀ from index next₀ on: d as it is, with i entries written up to index next
@@ -247,14 +217,17 @@ offsets-written n room a b c d e =
     rw (offsets-are n) (puts-then (puts-then (puts-then (puts-then a b (omega arith)) c (omega arith)) d (omega arith)) e (omega arith))
 
 pub classes-written : {d₀ d₁ d₂ d₃ d₄ d₅ : List ℕ} {i₀ i₁ i₂ i₃ i₄ i₅ : ℕ} → i₀ + 48 ≤ length d₀
-    → Puts d₀ i₀ nameHeap i₁ d₁
-    → Puts d₁ i₁ (u32Bytes 0 ++ u32Bytes 0) i₂ d₂
+    → Places d₀ i₀ nameHeap i₁ d₁
+    → Puts d₁ (i₀ + 16) (u32Bytes 0 ++ u32Bytes 0) i₂ d₂
     → Puts d₂ i₂ (u32Bytes 0 ++ u32Bytes 0) i₃ d₃
     → Puts d₃ i₃ (u32Bytes 0 ++ u32Bytes 2) i₄ d₄
     → Puts d₄ i₄ (u32Bytes 0 ++ u32Bytes 0) i₅ d₅
     → Puts d₀ i₀ (nameHeap ++ classEntries) i₅ d₅
 unfolding u32s flatMap
-classes-written room h a b c d = puts-then (puts-then (puts-then (puts-then h a (omega arith)) b (omega arith)) c (omega arith)) d (omega arith)
+classes-written {d₀} {d₁} {i₀ = i₀} room h a b c d =
+    let p = places-fits d₀ i₀ nameHeap (omega arith) h in
+    let n : Puts d₀ i₀ nameHeap (i₀ + 16) d₁ = record { end = refl; buffer = p .buffer } in
+    puts-then (puts-then (puts-then (puts-then n a (omega arith)) b (omega arith)) c (omega arith)) d (omega arith)
 
 -- ---- writing the whole blob
 

@@ -10,7 +10,7 @@ use lib.Dec.{leb}
 use lib.ListN.{length}
 use Rattle.text.specs.Result.{Result, ok, error, mapResult, check, foldCount, foldRange, _>>_, _>>=_}
 use Rattle.text.proofs.ResultLaws.{reply-is, seq-passed, bind-passed, foldRange-done, foldRange-yes, foldRange-no}
-use Rattle.writer.specs.Array.{stringUnits, allUnits, payload, checkShape, arrayOf}
+use Rattle.writer.specs.Array.{stringUnits, allUnits, payload, isShape, checkShape, arrayOf}
 use Rattle.writer.specs.Spans.{stringAt, stringsFrom, stringsIn, checkString, checkStrings}
 use Rattle.writer.specs.Stages.{stringEnd, MeasuresString, measuredStrings, textMeasureOf, arrayIn}
 use Rattle.writer.specs.Replies.{measuredPayload}
@@ -161,7 +161,7 @@ module _ (dims text spans : List ℕ) where
     pub payload-bad : {i : ℕ} → x ≡ strings.Bad i → error (record { number = 30; place = i }) ≡ measuredPayload dims text spans
     payload-bad g = sym (rw (reply-is textMeasureOf s g) at (measured-is e))
 
-    module _ {u : ℕ} (g : x ≡ strings.Units u) (r : Bool) (k : check 31 r (length spans / 2) ≡ checkShape dims (length spans / 2)) where
+    module _ {u : ℕ} (g : x ≡ strings.Units u) (r : Bool) (k : r ≡ isShape dims (length spans / 2)) where
       pub payload-shapeless : not r ≡ true → error (record { number = 31; place = length spans / 2 }) ≡ measuredPayload dims text spans
       payload-shapeless t = sym (rw (reply-is textMeasureOf s g, ← k, not-true r t) at (measured-is e))
 

@@ -6,12 +6,12 @@ use Prim.Native.Nat.{ℕ, _+_, _-_, _≤_, _<_, _^_, min}
 use native.Mathlib.Omega.{arith}
 use borrow.Author.Tests.{le-leb, lt-leb}
 use lib.ListN.{length, set, length-set}
-use Rattle.text.specs.Buffer.{put}
+use Rattle.text.specs.Buffer.{put, Places}
 use Rattle.text.specs.Errors.{failureOf}
 use Rattle.text.specs.Result.{Result, ok, error, mapResult, overwritten}
 use Rattle.text.specs.declared.error.MatError.{MatError}
 use Rattle.text.specs.declared.error.MatError.the-variants.{OutputTooShort}
-use Rattle.text.proofs.BufferLaws.{put-front, put-more, length-put}
+use Rattle.text.proofs.BufferLaws.{put-front, put-more, length-put, places-fits}
 use Rattle.text.proofs.ByteLaws.{stores}
 use Rattle.writer.specs.Array.{Array, stringWords, payload, arrayOf, encodePayload}
 use Rattle.writer.specs.Replies.{lengthReplyOf, measuredPayload, EncodesPayload}
@@ -33,15 +33,17 @@ module _ {dims text spans : List ℕ} (d : List ℕ) (f : PayloadFits dims text 
   pub second-room : 1 < length (set d 0 1)
   second-room = simp length-set (omega (arith, size))
 
-  pub dims-room : 2 + length dims ≤ length (set (set d 0 1) 1 (length dims))
+  dims-room : 2 + length dims ≤ length (set (set d 0 1) 1 (length dims))
   dims-room = simp length-set (omega (arith, size))
 
   heads : set (set d 0 1) 1 (length dims) ≡ put d 0 (1 ∷ length dims ∷ [])
   heads = stores (1 ∷ length dims ∷ []) d 0 (omega (arith, size))
 
-  module _ {d' : List ℕ} (e : d' ≡ put (set (set d 0 1) 1 (length dims)) 2 dims) where
+  module _ {next : ℕ} {d' : List ℕ} (e : Places (set (set d 0 1) 1 (length dims)) 2 dims next d') where
     dims-put : d' ≡ put d 0 ((1 ∷ length dims ∷ []) ++ dims)
-    dims-put = e ∙ ap (λ (w : List ℕ). put w 2 dims) heads ∙ put-more d 0 (1 ∷ length dims ∷ []) dims 2 refl (omega (arith, size))
+    dims-put =
+        places-fits (set (set d 0 1) 1 (length dims)) 2 dims dims-room e .buffer
+        ∙ ap (λ (w : List ℕ). put w 2 dims) heads ∙ put-more d 0 (1 ∷ length dims ∷ []) dims 2 refl (omega (arith, size))
 
     same-length : length d' ≡ length d
     same-length = ap length dims-put ∙ length-put d 0 (1 ∷ length dims ∷ dims) (omega (arith, size))

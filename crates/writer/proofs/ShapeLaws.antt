@@ -1,26 +1,33 @@
--- Check 31: the loop of `is_shape`.
+-- Check 31: the outcomes of `is_shape`, and a shape by its product.
 -- Assumes nothing.
-use Prim.Native.Nat.{ℕ, _+_, _*_, _^_, _≤_, _<_}
-use mathlib.Core.Path.{_≡_, sym, _∙_}
-use mathlib.Core.Bool.{Bool, true, false, not}
+use Prim.Native.Nat.{ℕ}
+use mathlib.Core.Path.{_≡_, refl, sym, ap, _∙_}
+use mathlib.Core.Bool.{true, false}
 use mathlib.Core.List.{List}
-use borrow.Author.Tests.{not-true, not-false}
-use lib.Dec.{ltb, eqb}
-use lib.ListN.{length, getD}
-use Rattle.text.specs.Result.{check}
-use Rattle.text.proofs.ProductLaws.{Multiplying, product-below, multiply-turn, multiply-stop, multiply-last}
-use Rattle.writer.specs.Array.{checkProduct, checkShape}
+use borrow.Author.Tests.{eq-eqb, eqb-true}
+use lib.Dec.{eqb}
+use Rattle.text.specs.Product.{productOf}
+use Rattle.text.specs.declared.convert.Product.{Product}
+use Rattle.text.specs.declared.convert.Product.the-variants.{Of, OverflowAt}
+use Rattle.text.proofs.TestLaws.{not-both}
+use Rattle.writer.specs.Array.{isProduct, isShape}
 
-module _ (dims : List ℕ) (n : ℕ) {product i : ℕ} (m : Multiplying (checkProduct dims n) (length dims) product i) where
-  module _ {r : Bool} (h : i < length dims) (e : r ≡ ltb (product * getD dims i 0) (2 ^ 64)) where
-    pub shape-turn : not r ≡ false → Multiplying (checkProduct dims n) (length dims) (product * getD dims i 0) (i + 1)
-    unfolding checkProduct
-    shape-turn t = multiply-turn _ _ m h (rw (sym e ∙ not-false r t)) (product-below product (getD dims i 0) e t)
+module _ (dims : List ℕ) {x : Product} (e : x ≡ productOf dims) where
+  pub shape-of : {p : ℕ} (n : ℕ) → x ≡ Of p → eqb p n ≡ isShape dims n
+  unfolding isShape
+  shape-of n g = ap (isProduct n) (sym g ∙ e)
 
-    pub shape-stop : not r ≡ true → check 31 false n ≡ checkShape dims n
-    unfolding checkProduct checkShape
-    shape-stop t = rw (multiply-stop _ _ m {e = record { number = 31; place = n }} h (rw (sym e ∙ not-true r t)))
+  pub shape-overflow : {i : ℕ} (n : ℕ) → x ≡ OverflowAt i → false ≡ isShape dims n
+  unfolding isShape
+  shape-overflow n g = ap (isProduct n) (sym g ∙ e)
 
-  pub shape-last : length dims ≤ i → check 31 (eqb product n) n ≡ checkShape dims n
-  unfolding checkShape
-  shape-last h = rw (multiply-last _ _ m h)
+pub shape-is : (dims : List ℕ) (n : ℕ) → productOf dims ≡ Of n → isShape dims n ≡ true
+shape-is dims n e = sym (shape-of dims refl n e) ∙ eq-eqb n n refl
+
+pub shape-product : (dims : List ℕ) (n : ℕ) → isShape dims n ≡ true → productOf dims ≡ Of n
+unfolding isShape
+shape-product dims n e = is (productOf dims) e
+  where
+    is : (x : Product) → isProduct n x ≡ true → x ≡ Of n
+    is (Of p) t = ap Of (eqb-true p n t)
+    is (OverflowAt i) t = not-both t refl

@@ -1,14 +1,11 @@
 -- The laws of packed code units: lengths, bounds, and packing unit by unit.
 -- Assumes nothing.
-use mathlib.Core.Path.{_≡_, refl, sym, ap, _∙_}
+use mathlib.Core.Path.{_≡_, refl, ap}
 use mathlib.Core.List.{List, [], _∷_, _++_}
-use Prim.Native.Nat.{ℕ, _+_, _*_, _/_, _%_, _^_, _≤_, _<_, suc}
+use Prim.Native.Nat.{ℕ, _+_, _*_, _/_, _%_, _^_, _<_}
 use native.Mathlib.Omega.{arith}
-use lib.ListN.{length, getD, set, take, length-set}
-use lib.Seq.{length-take-le, take-suc, take-all}
-use Rattle.text.specs.Buffer.{put}
+use lib.ListN.{length}
 use Rattle.text.specs.Unicode.{Below}
-use Rattle.text.proofs.BufferLaws.{put-none, put-one}
 use Rattle.writer.specs.Words.{value, packed}
 
 -- ---- lengths and bounds
@@ -102,33 +99,3 @@ packed-zero (a ∷ []) e = refl
 packed-zero (a ∷ b ∷ []) e = refl
 packed-zero (a ∷ b ∷ c ∷ []) e = refl
 packed-zero (a ∷ b ∷ c ∷ d ∷ us) e = ap (λ (r : List ℕ). value (a ∷ b ∷ c ∷ d ∷ []) ∷ r) (packed-zero us (λ z. e (omega arith)))
-
--- ---- the loop of `put_words`
-
--- the first i words of the list are copied
-pub record Copying (list d₀ : List ℕ) (at : ℕ) (d : List ℕ) (i : ℕ) : Type 0 where
-  pub bound : i ≤ length list
-  pub same : length d ≡ length d₀
-  pub holds : d ≡ put d₀ at (take i list)
-
-module _ (list d₀ : List ℕ) (at : ℕ) where
-  pub copy-start : Copying list d₀ at d₀ 0
-  copy-start = record { bound = omega arith; same = refl; holds = sym (put-none d₀ at) }
-
-  module _ {d : List ℕ} {i : ℕ} (m : Copying list d₀ at d i) where
-    pub copy-turn : at + length list ≤ length d₀ → i < length list → Copying list d₀ at (set d (at + i) (getD list i 0)) (i + 1)
-    copy-turn room h =
-        let n : i + 1 ≡ suc i = omega arith in
-        let l : length (take i list) ≡ i = length-take-le i list (omega arith) in
-        let k : at + i ≡ at + length (take i list) = omega arith in
-        record {
-          bound = omega arith;
-          same = length-set d (at + i) (getD list i 0) ∙ m .same;
-          holds =
-              rw (m .holds, k, n)
-              (put-one d₀ at (take i list) (getD list i 0) (omega arith)
-              ∙ ap (put d₀ at) (sym (take-suc list i 0 h)));
-        }
-
-    pub copy-last : length list ≤ i → d ≡ put d₀ at list
-    copy-last h = m .holds ∙ ap (put d₀ at) (take-all i list h)

@@ -1,13 +1,17 @@
 -- An array of strings, its saveobj payload, and the checks of writing one.
 -- Assumes nothing.
-use Prim.Native.Nat.{ℕ, _+_, _*_, _^_}
+use Prim.Native.Nat.{ℕ, _+_}
 use mathlib.Core.Path.{_≡_}
+use mathlib.Core.Bool.{Bool, false}
 use mathlib.Core.List.{List, [], _∷_, _++_, map, flatMap}
 use mathlib.Core.Option.{Option·getD}
-use lib.Dec.{leb, ltb, eqb}
-use lib.ListN.{length, getD}
-use Rattle.text.specs.Result.{Result, ok, check, checkOutput, foldRange, _>>_, _>>=_}
+use lib.Dec.{leb, eqb}
+use lib.ListN.{length}
+use Rattle.text.specs.Product.{productOf}
+use Rattle.text.specs.Result.{Result, ok, check, checkOutput, _>>_, _>>=_}
 use Rattle.text.specs.Utf8.{unitsOf}
+use Rattle.text.specs.declared.convert.Product.{Product}
+use Rattle.text.specs.declared.convert.Product.the-variants.{Of, OverflowAt}
 use Rattle.writer.specs.Spans.{checkStrings}
 use Rattle.writer.specs.Words.{packed}
 
@@ -40,17 +44,18 @@ stringWords ss = unitCounts ss ++ packed (allUnits ss)
 unfoldable pub payload : Array → List ℕ
 payload a = 1 ∷ length (a .dims) ∷ (a .dims ++ stringWords (a .strings))
 
--- 31 for dimension i: "Does the product of the dimensions stay below 2^64 at each step"; the place is the number of strings
-unfoldable pub checkProduct : List ℕ → ℕ → ℕ → ℕ → Result ℕ
-checkProduct dims n i p = do
-  check 31 (ltb (p * getD dims i 0) (2 ^ 64)) n
-  ok (p * getD dims i 0)
+-- a product that is n
+abbrev pub isProduct : ℕ → Product → Bool
+isProduct n (Of p) = eqb p n
+isProduct n (OverflowAt i) = false
+
+-- "Does the product of the dimensions stay below 2^64 at each step and equal the number of strings?"
+unfoldable pub isShape : List ℕ → ℕ → Bool
+isShape dims n = isProduct n (productOf dims)
 
 -- 31 for n strings
-unfoldable pub checkShape : List ℕ → ℕ → Result (Unit {0})
-checkShape dims n = do
-  product ← foldRange (checkProduct dims n) 0 (length dims) 1
-  check 31 (eqb product n) n
+abbrev pub checkShape : List ℕ → ℕ → Result (Unit {0})
+checkShape dims n = check 31 (isShape dims n) n
 
 -- the array of dimensions and of strings cut from a text, with 30, 31 and 32's "at most 2,097,152 words"
 unfoldable pub arrayOf : List ℕ → List ℕ → List ℕ → Result Array

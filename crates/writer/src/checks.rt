@@ -1,13 +1,13 @@
 // Checks 30 and 31: the strings that spans cut from a text, and the shape of an array.
-use text::convert::product_fits;
+use text::convert::Product;
+use text::convert::checked_product;
 use text::convert::to_usize;
 use text::utf8::UnitCount;
 use text::utf8::count_units;
 ghost use mathlib.Core.Path.{_≡_};
 ghost use Prim.Native.Nat.{_+_, _*_, _≤_, _<_};
 ghost use lib.ListN.{length};
-ghost use Rattle.text.specs.Result.{check};
-ghost use Rattle.writer.specs.Array.{checkShape};
+ghost use Rattle.writer.specs.Array.{isShape};
 ghost use Rattle.writer.specs.Stages.{MeasuresString, textMeasureOf, measuredStrings};
 
 // What measuring a string came to: the end of its span and its code units, or that check 30 does not hold of it.
@@ -73,17 +73,10 @@ pub(crate) fn measure_strings(text: &[u8], spans: &[u64], n: usize) -> TextMeasu
 
 // Check 31: whether the product of the dimensions stays below 2^64 at each step and is n.
 pub(crate) fn is_shape(dims: &[u64], n: usize) -> bool
-    ensures { λ r. ⌜ check 31 r n ≡ checkShape (now (dims .entry)) n ⌝ }
+    ensures { λ r. ⌜ r ≡ isShape (now (dims .entry)) n ⌝ }
 {
-    let mut product: u64 = 1;
-    let mut i: usize = 0;
-    while i < dims.len() {
-        let dim = dims[i];
-        if !product_fits(product, dim) {
-            return false;
-        }
-        product *= dim;
-        i += 1;
+    match checked_product(dims) {
+        Product::Of(product) => product == n as u64,
+        Product::OverflowAt(_) => false,
     }
-    product == n as u64
 }

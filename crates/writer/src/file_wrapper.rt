@@ -1,4 +1,5 @@
 // The metadata blob for string objects, written region by region.
+use text::copy::copy_bytes;
 ghost use mathlib.Core.Path.{_≡_};
 ghost use mathlib.Core.List.{_∷_, _++_};
 ghost use Prim.Native.Nat.{_+_, _*_, _≤_, _<_};
@@ -34,19 +35,6 @@ fn put_pair(blob: &mut [u8], at: usize, a: u32, b: u32) -> usize
 {
     let next = put_u32(blob, at, a);
     put_u32(blob, next, b)
-}
-
-// Copies bytes into blob from index at on, and returns the index after them.
-fn put_bytes(bytes: &[u8], blob: &mut [u8], at: usize) -> usize
-    requires { ⌜ at + length (now bytes) ≤ length (now blob) ⌝ }
-    ensures { λ r. ⌜ Puts (now (blob .entry)) at (now (bytes .entry)) r (now (blob .exit)) ⌝ }
-{
-    let mut i: usize = 0;
-    while i < bytes.len() {
-        blob[at + i] = bytes[i];
-        i += 1;
-    }
-    at + bytes.len()
 }
 
 fn put_zero_entry(blob: &mut [u8], at: usize, kind: Region) -> usize
@@ -115,8 +103,8 @@ fn put_classes(blob: &mut [u8], at: usize) -> usize
     requires { ⌜ at + 48 ≤ length (now blob) ⌝ }
     ensures { λ r. ⌜ Puts (now (blob .entry)) at (nameHeap ++ classEntries) r (now (blob .exit)) ⌝ }
 {
-    let mut next = put_bytes(b"any\0string\0\0\0\0\0\0", blob, at);
-    next = put_pair(blob, next, 0, 0);
+    copy_bytes(b"any\0string\0\0\0\0\0\0", blob, at);
+    let mut next = put_pair(blob, at + 16, 0, 0);
     next = put_pair(blob, next, 0, 0);
     next = put_pair(blob, next, 0, 2);
     put_pair(blob, next, 0, 0)

@@ -208,15 +208,3 @@ pub(crate) fn put_strings(text: &[u8], spans: &[u64], words: &mut [u64], base: u
     }
     finish(words, first, last);
 }
-
-// Copies a list of words into words from index at on.
-pub(crate) fn put_words(list: &[u64], words: &mut [u64], at: usize)
-    requires { ⌜ at + length (now list) ≤ length (now words) ⌝ }
-    ensures { λ _. ⌜ now (words .exit) ≡ put (now (words .entry)) at (now (list .entry)) ⌝ }
-{
-    let mut i: usize = 0;
-    while i < list.len() {
-        words[at + i] = list[i];
-        i += 1;
-    }
-}

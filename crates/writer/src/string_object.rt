@@ -5,8 +5,8 @@ use crate::checks::measure_strings;
 use crate::compare::has_file_wrapper;
 use crate::file_wrapper::put_file_wrapper;
 use crate::packing::put_strings;
-use crate::packing::put_words;
 use text::convert::to_usize;
+use text::copy::copy_words;
 use text::error::MatError;
 ghost use mathlib.Core.Path.{_≡_};
 ghost use lib.ListN.{length};
@@ -92,7 +92,7 @@ fn put_payload(dims: &[u64], text: &[u8], spans: &[u64], words: &mut [u64])
 {
     words[0] = MATLAB_STRING_SAVEOBJ_VERSION;
     words[1] = dims.len() as u64;
-    put_words(dims, words, 2);
+    copy_words(dims, words, 2);
     put_strings(text, spans, words, 2 + dims.len());
 }
 

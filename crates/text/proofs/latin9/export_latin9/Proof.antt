@@ -1,7 +1,7 @@
 -- `text::latin9::export_latin9` meets its contract.
 -- Assumes nothing.
 use borrow.Author.Needs.{needs}
-use Rattle.text.proofs.ExportLaws.{export-refused, export-short, export-fits, export-written, export-own-room, export-own}
+use Rattle.text.proofs.ExportLaws.{export-refused, export-short, export-fits, export-written, export-own}
 use Rattle.text.proofs.latin9.export_latin9.Statement.{statement}
 use Rattle.text.proofs.latin9.export_latin9.Tie as tie
 
@@ -12,7 +12,7 @@ export-latin9-spec =
     (λ c κs. search needs)
     (λ c. search needs)
     (λ c. search (export-short, needs))
-    (λ c κs. search (export-own-room, needs))
+    (λ c κs. search needs)
     (λ c. search needs)
     (λ c. search (export-own, needs))
     (λ c κs. search (export-fits, needs))

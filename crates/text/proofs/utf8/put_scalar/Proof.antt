@@ -5,8 +5,8 @@ use Rattle.text.proofs.ByteLaws.{put-none, put-short, put-past, top-is,
 use Rattle.text.proofs.utf8.put_scalar.Statement.{statement}
 use Rattle.text.proofs.utf8.put_scalar.Tie as tie
 
-put-bytes-requires : tie.Need-put-bytes-requires
-put-bytes-requires c κs =
+put-utf8-requires : tie.Need-put-utf8-requires
+put-utf8-requires c κs =
     let e = c .before .before .before in
     (top-is _ (e .if1 .left) (e .before .utf8-len .ensures), search (put-room, needs))
 
@@ -19,6 +19,6 @@ put-scalar-spec =
     (λ c. search (put-short, needs))
     (λ c. search needs)
     (λ c. search (put-past, needs))
-    put-bytes-requires
+    put-utf8-requires
     (λ c. search needs)
     (λ c. search (put-done, needs)))

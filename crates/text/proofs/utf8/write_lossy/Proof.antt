@@ -1,7 +1,7 @@
 -- `text::utf8::write_lossy` meets its contract.
 -- Assumes nothing.
 use native.Mathlib.Omega.{arith}
-use Rattle.text.proofs.LossyLaws.{lossy-short, own-fits, lossy-own, lossy-room, lossy-written, lossy-past}
+use Rattle.text.proofs.LossyLaws.{lossy-short, lossy-own, lossy-room, lossy-written, lossy-past}
 use borrow.Author.Needs.{needs}
 use Rattle.text.proofs.utf8.write_lossy.Statement.{statement}
 use Rattle.text.proofs.utf8.write_lossy.Tie as tie
@@ -16,7 +16,7 @@ write-lossy-spec =
     (λ c κs. search needs)
     (λ c. search needs)
     (λ c. search (lossy-short, needs))
-    (λ c κs. search (own-fits, needs))
+    (λ c κs. search needs)
     (λ c. search needs)
     (λ c. search (lossy-own, needs))
     (λ c κs. search (lossy-room, needs))

@@ -1,4 +1,4 @@
--- `text::utf8::put_bytes` meets its contract.
+-- `text::utf8::put_utf8` meets its contract.
 -- Assumes nothing.
 use mathlib.Core.Path.{ap}
 use Prim.Native.Nat.{ℕ, _+_, _≤_}
@@ -6,10 +6,10 @@ use native.Mathlib.Omega.{arith}
 use lib.ListN.{length, length-set}
 use Rattle.text.proofs.ByteLaws.{size-1, size-2, size-3, size-4, writes-1, writes-2, writes-3, writes-4}
 use borrow.Author.Needs.{needs}
-use Rattle.text.proofs.utf8.put_bytes.Statement.{statement}
-use Rattle.text.proofs.utf8.put_bytes.Tie as tie
-use Rattle.text.proofs.utf8.put_bytes.Reads as reads
-use Rattle.text.proofs.utf8.put_bytes.Lts as lts
+use Rattle.text.proofs.utf8.put_utf8.Statement.{statement}
+use Rattle.text.proofs.utf8.put_utf8.Tie as tie
+use Rattle.text.proofs.utf8.put_utf8.Reads as reads
+use Rattle.text.proofs.utf8.put_utf8.Lts as lts
 
 -- the room that is left, where the size is known
 room-1 : (c : lts.Then1 reads.Pre reads.Post) → c .before .args .at + 1 ≤ length (c .before .args .out .now)
@@ -74,7 +74,7 @@ returns-4 c =
     let a = c .before .before .before in
     (ap (λ (n : ℕ). a .args .at + n) (size-4 (a .args .value) (c .if3 .left)), writes-4 (a .args .value) (a .args .out .now) (a .args .at) (c .if3 .left) (a .pre .1))
 
-pub put-bytes-spec : {M : Type 1} → statement M
-put-bytes-spec =
+pub put-utf8-spec : {M : Type 1} → statement M
+put-utf8-spec =
     tie.close
     (tie.spec (λ c. search needs) slice-write-out (λ c. search needs) (λ c. search needs) returns (λ c. search needs) (λ c. search needs) slice-write-out-2 (λ c. search needs) (λ c. search needs) (λ c. search needs) slice-write-out-3 (λ c. search needs) (λ c. search needs) returns-2 (λ c. search needs) (λ c. search needs) slice-write-out-4 (λ c. search needs) (λ c. search needs) (λ c. search needs) slice-write-out-5 (λ c. search needs) (λ c. search needs) (λ c. search needs) slice-write-out-6 (λ c. search needs) (λ c. search needs) returns-3 (λ c. search needs) (λ c. search needs) slice-write-out-7 (λ c. search needs) (λ c. search needs) (λ c. search needs) slice-write-out-8 (λ c. search needs) (λ c. search needs) (λ c. search needs) slice-write-out-9 (λ c. search needs) (λ c. search needs) (λ c. search needs) slice-write-out-10 (λ c. search needs) (λ c. search needs) returns-4)
