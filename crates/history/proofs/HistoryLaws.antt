@@ -9,15 +9,16 @@ use lib.ListN.{length, getD, take, drop, set, length-drop, length-append, drop-o
 use lib.Seq.{take-all, take-nil, take-at}
 use Rattle.text.specs.Buffer.{put}
 use Rattle.text.specs.Errors.{failureOf}
+use Rattle.text.specs.Replies.{lengthReplyOf}
 use Rattle.text.specs.Result.{Result, ok, error, mapResult, checkOutput, overwritten, _>>_}
 use Rattle.text.specs.declared.error.Failure.{Failure}
 use Rattle.text.specs.declared.error.MatError.{MatError}
+use Rattle.text.specs.declared.reply.LengthReply.{LengthReply}
+use Rattle.text.specs.declared.reply.LengthReply.the-variants as length-reply
 use Rattle.text.proofs.BufferLaws.{put-none, put-one, SoFar, begins, goes-on, ends}
 use Rattle.writer.specs.Array.{payloads, payloadSpans}
 use Rattle.writer.specs.FileWrapper.{fileWrapper, buildMetadata}
-use Rattle.writer.specs.Replies.{lengthReplyOf, BuildsMetadata}
-use Rattle.writer.specs.declared.string_object.LengthReply.{LengthReply}
-use Rattle.writer.specs.declared.string_object.LengthReply.the-variants as length-reply
+use Rattle.writer.specs.Replies.{BuildsMetadata}
 use Rattle.writer.proofs.FileWrapperLaws.{length-file-wrapper}
 use Rattle.store.specs.Store.{Store, storeOf}
 use Rattle.store.specs.Edits.{appended, replaced, replyOf, storeAfter, over}

@@ -10,11 +10,13 @@ use lib.Dec.{leb}
 use lib.ListN.{length, take, drop, set, length-append, length-set}
 use lib.Seq.{length-slice}
 use Rattle.text.specs.Buffer.{put, Puts, Places}
-use Rattle.text.specs.Replies.{lossyLength}
+use Rattle.text.specs.Replies.{lossyLength, checkedOf}
 use Rattle.text.specs.Result.{ok}
 use Rattle.text.specs.Utf8.{lossy}
 use Rattle.text.specs.declared.error.MatError.{MatError}
 use Rattle.text.specs.declared.error.MatError.the-variants.{ClassIdOutOfRange, NameIndexOutOfRange, OutputTooShort}
+use Rattle.text.specs.declared.reply.Checked.{Checked}
+use Rattle.text.specs.declared.reply.Checked.the-variants as checked
 use Rattle.text.specs.declared.utf8.LossyLength.{LossyLength}
 use Rattle.text.specs.declared.utf8.LossyLength.the-variants as measure
 use Rattle.text.proofs.BufferLaws.{put-front, put-more, length-put, places-fits}
@@ -25,9 +27,7 @@ use Rattle.text.proofs.Utf8Laws.{lossy-le}
 use Rattle.reader.specs.Names.{pieceBytes, HasName, IsName, InBlob, IsLength, BothInBlob}
 use Rattle.reader.specs.Opening.{opened, Opens}
 use Rattle.reader.specs.Queries.{shown, classEntry, shownClass, entryText, classOf, classText, objectRecord, checkObject, objectClassText}
-use Rattle.reader.specs.Replies.{parseReplyOf, checkedOf, WritesText}
-use Rattle.reader.specs.declared.file_wrapper.Checked.{Checked}
-use Rattle.reader.specs.declared.file_wrapper.Checked.the-variants as checked
+use Rattle.reader.specs.Replies.{parseReplyOf, WritesText}
 use Rattle.reader.specs.declared.file_wrapper.FileWrapper.{FileWrapper}
 use Rattle.reader.specs.declared.file_wrapper.ParseReply.{ParseReply}
 use Rattle.reader.specs.declared.file_wrapper.ParseReply.the-variants as parse

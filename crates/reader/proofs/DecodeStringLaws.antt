@@ -6,8 +6,11 @@ use mathlib.Core.List.{List, [], flatMap}
 use native.Mathlib.Omega.{arith}
 use lib.ListN.{length, getD, take, drop, length-append}
 use Rattle.text.specs.Errors.{failureOf}
+use Rattle.text.specs.Replies.{checkedOf}
 use Rattle.text.specs.Result.{Result, ok, error, mapResult, valuesOf}
 use Rattle.text.specs.declared.error.MatError.{MatError}
+use Rattle.text.specs.declared.reply.Checked.{Checked}
+use Rattle.text.specs.declared.reply.Checked.the-variants as checked
 use Rattle.text.proofs.BufferLaws.{put-none}
 use Rattle.text.proofs.ResultLaws.{reply-is, bind-passed}
 use Rattle.reader.specs.CellStages.{ReadsCell}
@@ -16,13 +19,11 @@ use Rattle.reader.specs.Decode.{idStrings, idsStrings, metadataStrings}
 use Rattle.reader.specs.DecodeStages.{IdFits, IdsThere, IdsFit}
 use Rattle.reader.specs.Opaque.{opaqueMetadata, opaqueReplyOf}
 use Rattle.reader.specs.Opening.{opened}
-use Rattle.reader.specs.Replies.{parseReplyOf, checkedOf}
+use Rattle.reader.specs.Replies.{parseReplyOf}
 use Rattle.reader.specs.Saveobj.{decodePayload, joined, spansFrom}
 use Rattle.reader.specs.SaveobjStages.{Counts, countsOf, stringsReplyOf, origin, FitsAt, WritesAt, DecodesStrings}
 use Rattle.reader.specs.declared.cells.CellReply.{CellReply}
 use Rattle.reader.specs.declared.cells.CellReply.the-variants as cell
-use Rattle.reader.specs.declared.file_wrapper.Checked.{Checked}
-use Rattle.reader.specs.declared.file_wrapper.Checked.the-variants as checked
 use Rattle.reader.specs.declared.file_wrapper.FileWrapper.{FileWrapper}
 use Rattle.reader.specs.declared.file_wrapper.ParseReply.{ParseReply}
 use Rattle.reader.specs.declared.file_wrapper.ParseReply.the-variants as parse
@@ -35,8 +36,8 @@ use Rattle.reader.specs.declared.saveobj.StringsReply.the-variants as re
 use Rattle.reader.proofs.BothLaws.{Strings, both, both-none, none-both, both-assoc, both-passed, both-counts, same-text, same-spans, fits-first, fits-second, writes-both}
 use Rattle.reader.proofs.CellLaws.{found-is, found-not}
 use Rattle.reader.proofs.OpaqueLaws.{opaque-passed}
-use Rattle.reader.proofs.PayloadLaws.{counts-are, error-is, payload-most, decode-refused, decode-fits}
 use Rattle.reader.proofs.StringLaws.{length-joined}
+use Rattle.reader.proofs.PayloadLaws.{counts-are, error-is, payload-most, decode-refused, decode-fits}
 
 -- ---- the outcomes of `measure_id` and `put_id`
 

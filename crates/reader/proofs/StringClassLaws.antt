@@ -8,16 +8,16 @@ use borrow.Author.Tests.{le-leb, lt-leb, lt-ltb, le-ltb, eq-eqb, ne-eqb}
 use lib.Dec.{eqb}
 use lib.ListN.{take, drop}
 use Rattle.text.specs.Buffer.{same}
+use Rattle.text.specs.Replies.{checkedOf}
 use Rattle.text.specs.Result.{Result, check}
 use Rattle.text.specs.Utf8.{lossy}
 use Rattle.text.specs.declared.error.MatError.the-variants.{ClassIdOutOfRange, NameIndexOutOfRange, NotStringObject}
+use Rattle.text.specs.declared.reply.Checked.the-variants as checked
 use Rattle.text.proofs.SameLaws.{same-not}
 use Rattle.text.proofs.TestLaws.{not-both}
 use Rattle.reader.specs.Decode.{stringName, checkString, stringClass}
 use Rattle.reader.specs.Names.{IsName}
 use Rattle.reader.specs.Queries.{classEntry, entryText, classOf}
-use Rattle.reader.specs.Replies.{checkedOf}
-use Rattle.reader.specs.declared.file_wrapper.Checked.the-variants as checked
 use Rattle.reader.specs.declared.file_wrapper.FileWrapper.{FileWrapper}
 use Rattle.reader.specs.declared.names.Piece.{Piece}
 use Rattle.reader.specs.declared.records.ClassEntry.{ClassEntry}

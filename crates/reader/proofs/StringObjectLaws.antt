@@ -9,9 +9,12 @@ use borrow.Author.Tests.{le-leb, eq-eqb, ne-eqb}
 use lib.Dec.{leb}
 use lib.ListN.{length, getD, take, drop, set}
 use Rattle.text.specs.Errors.{failureOf}
+use Rattle.text.specs.Replies.{checkedOf}
 use Rattle.text.specs.Result.{Result, ok, error, mapResult, overwritten, _>>_, _>>=_}
 use Rattle.text.specs.declared.error.MatError.{MatError}
 use Rattle.text.specs.declared.error.MatError.the-variants.{NotStringObject, OutputTooShort}
+use Rattle.text.specs.declared.reply.Checked.{Checked}
+use Rattle.text.specs.declared.reply.Checked.the-variants as checked
 use Rattle.text.proofs.BufferLaws.{put-front}
 use Rattle.text.proofs.ByteLaws.{stores}
 use Rattle.text.proofs.ResultLaws.{reply-is}
@@ -24,14 +27,12 @@ use Rattle.reader.specs.Objects.{triplesFrom, recordTriples, isNamed}
 use Rattle.reader.specs.ObjectStages.{PassedTriples, triplesReplyOf, Triples, RecordTriples, firstIndex}
 use Rattle.reader.specs.Opening.{opened, Opens}
 use Rattle.reader.specs.Queries.{checkObject, objectRecord}
-use Rattle.reader.specs.Replies.{parseReplyOf, checkedOf}
+use Rattle.reader.specs.Replies.{parseReplyOf}
 use Rattle.reader.specs.Saveobj.{decodePayload, spansFrom, intoStrings}
 use Rattle.reader.specs.SaveobjStages.{countsOf, DecodesStrings}
 use Rattle.reader.specs.Wire.{tripleAt}
 use Rattle.reader.specs.declared.cells.CellReply.{CellReply}
 use Rattle.reader.specs.declared.cells.CellReply.the-variants as cell
-use Rattle.reader.specs.declared.file_wrapper.Checked.{Checked}
-use Rattle.reader.specs.declared.file_wrapper.Checked.the-variants as checked
 use Rattle.reader.specs.declared.file_wrapper.FileWrapper.{FileWrapper}
 use Rattle.reader.specs.declared.file_wrapper.ParseReply.{ParseReply}
 use Rattle.reader.specs.declared.file_wrapper.ParseReply.the-variants as parse

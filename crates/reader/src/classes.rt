@@ -1,5 +1,4 @@
 // The classes of a metadata blob.
-use crate::file_wrapper::Checked;
 use crate::file_wrapper::FileWrapper;
 use crate::file_wrapper::ParseReply;
 use crate::names::NameReply;
@@ -10,6 +9,7 @@ use crate::objects::check_object;
 use crate::records::ClassEntry;
 use crate::records::ObjectRecord;
 use text::error::MatError;
+use text::reply::Checked;
 use text::utf8::LossyLength;
 use text::utf8::is_lossy;
 use text::utf8::lossy_length;
@@ -19,13 +19,14 @@ ghost use mathlib.Core.List.{_∷_, _++_};
 ghost use Prim.Native.Nat.{_≤_, _+_};
 ghost use lib.ListN.{length};
 ghost use Rattle.text.specs.Buffer.{Puts};
+ghost use Rattle.text.specs.Replies.{checkedOf};
 ghost use Rattle.text.specs.Result.{ok};
 ghost use Rattle.text.specs.Utf8.{lossy};
 ghost use Rattle.reader.specs.Decode.{checkString, stringClass};
 ghost use Rattle.reader.specs.Names.{pieceBytes, InBlob, IsLength, BothInBlob};
 ghost use Rattle.reader.specs.Opening.{Opens};
 ghost use Rattle.reader.specs.Queries.{entryText, classOf, classText, objectClassText};
-ghost use Rattle.reader.specs.Replies.{checkedOf, WritesText};
+ghost use Rattle.reader.specs.Replies.{WritesText};
 
 // The repaired length of a piece.
 fn piece_length(blob: &[u8], piece: Piece) -> usize

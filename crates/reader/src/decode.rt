@@ -2,7 +2,6 @@
 use crate::cells::CellReply;
 use crate::cells::cell_of;
 use crate::cells::check_directory;
-use crate::file_wrapper::Checked;
 use crate::file_wrapper::FileWrapper;
 use crate::file_wrapper::ParseReply;
 use crate::opaque::OpaqueReply;
@@ -12,6 +11,7 @@ use crate::saveobj::StringsReply;
 use crate::saveobj::measure_payload;
 use crate::saveobj::put_payload;
 use text::error::MatError;
+use text::reply::Checked;
 ghost use mathlib.Core.Path.{_≡_};
 ghost use lib.ListN.{length};
 ghost use Rattle.text.specs.Result.{mapResult};

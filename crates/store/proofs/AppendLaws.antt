@@ -12,12 +12,12 @@ use lib.ListN.{length, take, drop, set, replicate, length-append, length-take, l
 use lib.Seq.{drop-drop, drop-length, take-all}
 use Rattle.text.specs.Buffer.{put}
 use Rattle.text.specs.Result.{Result, ok, error, checkOutput, overwritten}
+use Rattle.text.specs.declared.reply.LengthReply.{LengthReply}
 use Rattle.text.proofs.BufferLaws.{put-none, put-one}
 use Rattle.writer.specs.Array.{Array, payload, payloads, payloadSpans, arrayOf, encodePayload}
 use Rattle.writer.specs.FileWrapper.{fileWrapper, buildMetadata}
 use Rattle.writer.specs.Replies.{EncodesPayload, BuildsMetadata}
 use Rattle.writer.specs.Stages.{arrayIn}
-use Rattle.writer.specs.declared.string_object.LengthReply.{LengthReply}
 use Rattle.writer.proofs.FileWrapperLaws.{length-file-wrapper, builds}
 use Rattle.writer.proofs.LayoutLaws.{length-payload-spans}
 use Rattle.store.specs.Store.{Store, storeOf, serialize, counted, storedArrays}
