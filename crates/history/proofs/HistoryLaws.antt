@@ -16,9 +16,10 @@ use Rattle.text.specs.declared.error.MatError.{MatError}
 use Rattle.text.specs.declared.reply.LengthReply.{LengthReply}
 use Rattle.text.specs.declared.reply.LengthReply.the-variants as length-reply
 use Rattle.text.proofs.BufferLaws.{put-none, put-one, SoFar, begins, goes-on, ends}
-use Rattle.writer.specs.Array.{payloads, payloadSpans}
+use Rattle.writer.specs.Array.{payloads}
 use Rattle.writer.specs.FileWrapper.{fileWrapper, buildMetadata}
 use Rattle.writer.specs.Replies.{BuildsMetadata}
+use Rattle.writer.specs.Spans.{spansFrom}
 use Rattle.writer.proofs.FileWrapperLaws.{length-file-wrapper}
 use Rattle.store.specs.Store.{Store, storeOf}
 use Rattle.store.specs.Edits.{appended, replaced, replyOf, storeAfter, over}
@@ -248,7 +249,7 @@ module _ (blob : List ℕ) {r : LengthReply} {blob' : List ℕ} where
 
     module _ (directory kinds words : List ℕ) where
       pub run-begins : {n : ℕ} → r ≡ length-reply.Length n → IsEmpty (storeOf 0 144 0 blob' directory kinds words)
-      unfolding payloads payloadSpans flatMap
+      unfolding payloads spansFrom flatMap
       run-begins e =
           let w = fileWrapper 0 in
           rw (built e .1) (record { is = rw (take-at w (drop (length w) blob) 144 (length-file-wrapper 0), ← length-file-wrapper 0) })

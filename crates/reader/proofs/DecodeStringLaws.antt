@@ -13,6 +13,8 @@ use Rattle.text.specs.declared.reply.Checked.{Checked}
 use Rattle.text.specs.declared.reply.Checked.the-variants as checked
 use Rattle.text.proofs.BufferLaws.{put-none}
 use Rattle.text.proofs.ResultLaws.{reply-is, bind-passed}
+use Rattle.writer.specs.Spans.{joined, spansFrom}
+use Rattle.writer.proofs.LayoutLaws.{length-joined}
 use Rattle.reader.specs.CellStages.{ReadsCell}
 use Rattle.reader.specs.Cells.{checkDirectory, cellOf}
 use Rattle.reader.specs.Decode.{idStrings, idsStrings, metadataStrings}
@@ -20,7 +22,7 @@ use Rattle.reader.specs.DecodeStages.{IdFits, IdsThere, IdsFit}
 use Rattle.reader.specs.Opaque.{opaqueMetadata, opaqueReplyOf}
 use Rattle.reader.specs.Opening.{opened}
 use Rattle.reader.specs.Replies.{parseReplyOf}
-use Rattle.reader.specs.Saveobj.{decodePayload, joined, spansFrom}
+use Rattle.reader.specs.Saveobj.{decodePayload}
 use Rattle.reader.specs.SaveobjStages.{Counts, countsOf, stringsReplyOf, origin, FitsAt, WritesAt, DecodesStrings}
 use Rattle.reader.specs.declared.cells.CellReply.{CellReply}
 use Rattle.reader.specs.declared.cells.CellReply.the-variants as cell
@@ -36,7 +38,6 @@ use Rattle.reader.specs.declared.saveobj.StringsReply.the-variants as re
 use Rattle.reader.proofs.BothLaws.{Strings, both, both-none, none-both, both-assoc, both-passed, both-counts, same-text, same-spans, fits-first, fits-second, writes-both}
 use Rattle.reader.proofs.CellLaws.{found-is, found-not}
 use Rattle.reader.proofs.OpaqueLaws.{opaque-passed}
-use Rattle.reader.proofs.StringLaws.{length-joined}
 use Rattle.reader.proofs.PayloadLaws.{counts-are, error-is, payload-most, decode-refused, decode-fits}
 
 -- ---- the outcomes of `measure_id` and `put_id`

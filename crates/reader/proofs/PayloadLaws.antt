@@ -19,7 +19,8 @@ use Rattle.text.specs.declared.error.MatError.{MatError}
 use Rattle.text.specs.declared.error.MatError.the-variants.{OutputTooShort}
 use Rattle.text.proofs.BufferLaws.{put-front}
 use Rattle.text.proofs.ResultLaws.{reply-is, seq-passed, bind-passed, checkEach-passed, check-is, Checks, checks-start, checks-turn, checks-stop}
-use Rattle.reader.specs.Saveobj.{unitsBefore, Header, storedUnits, storedStrings, checkHeader, checkSum, checkLengths, checkStrings, decodePayload, joined, spansFrom, intoStrings}
+use Rattle.writer.specs.Spans.{joined, spansFrom}
+use Rattle.reader.specs.Saveobj.{unitsBefore, Header, storedUnits, storedStrings, checkHeader, checkSum, checkLengths, checkStrings, decodePayload, intoStrings}
 use Rattle.reader.specs.SaveobjStages.{numberOf, headerOf, Layout, layoutOf, checkLayout, Counts, countsOf, stringsReplyOf, UnitsChecked, StringsFit, WritesStrings, origin, FitsAt, WritesAt, DecodesStrings}
 use Rattle.reader.specs.declared.saveobj.HeaderReply.{HeaderReply}
 use Rattle.reader.specs.declared.saveobj.HeaderReply.the-variants as header

@@ -19,6 +19,7 @@ use Rattle.text.proofs.BufferLaws.{put-front}
 use Rattle.text.proofs.ByteLaws.{stores}
 use Rattle.text.proofs.ResultLaws.{reply-is}
 use Rattle.text.proofs.TestLaws.{either}
+use Rattle.writer.specs.Spans.{spansFrom}
 use Rattle.reader.specs.CellStages.{IsDirectory, cellReplyOf, ReadsCell}
 use Rattle.reader.specs.Cells.{checkDirectory, cellAt}
 use Rattle.reader.specs.Decode.{anyName, chosenIndex, stringClass, propertyStrings, triplesStrings, objectStrings}
@@ -28,7 +29,7 @@ use Rattle.reader.specs.ObjectStages.{PassedTriples, triplesReplyOf, Tri
 use Rattle.reader.specs.Opening.{opened, Opens}
 use Rattle.reader.specs.Queries.{checkObject, objectRecord}
 use Rattle.reader.specs.Replies.{parseReplyOf}
-use Rattle.reader.specs.Saveobj.{decodePayload, spansFrom, intoStrings}
+use Rattle.reader.specs.Saveobj.{decodePayload, intoStrings}
 use Rattle.reader.specs.SaveobjStages.{countsOf, DecodesStrings}
 use Rattle.reader.specs.Wire.{tripleAt}
 use Rattle.reader.specs.declared.cells.CellReply.{CellReply}

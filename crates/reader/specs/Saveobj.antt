@@ -2,7 +2,7 @@
 -- Assumes nothing.
 use Prim.Native.Nat.{ℕ, zero, suc, _+_, _-_, _*_, _^_}
 use mathlib.Core.Bool.{Bool, cond, _&&_}
-use mathlib.Core.List.{List, [], _∷_, flatMap}
+use mathlib.Core.List.{List, [], _∷_}
 use lib.Dec.{leb, ltb, eqb}
 use lib.ListN.{length, getD, take, drop}
 use Rattle.text.specs.Buffer.{same}
@@ -11,7 +11,7 @@ use Rattle.text.specs.Unicode.{within}
 use Rattle.text.specs.Utf16.{textOf, theText}
 use Rattle.writer.specs.Array as writer
 use Rattle.writer.specs.Array.{Array}
-use Rattle.writer.specs.Spans.{isSome}
+use Rattle.writer.specs.Spans.{isSome, joined}
 use Rattle.reader.specs.Units.{unitsIn}
 
 -- "A payload is 1, number of dimensions, dimensions, lengths in code units, then units"
@@ -98,15 +98,6 @@ decodedArray payload = record { dims = take (dimCount payload) (drop 2 payload);
 -- a payload in canonical form (01's written form): it passes 22–29, and is "exactly what writing gives for its own dimensions and strings"
 unfoldable pub isCanonicalPayload : List ℕ → Bool
 isCanonicalPayload payload = isOk (decodePayload payload) && same (writer.payload (decodedArray payload)) payload
-
--- "UTF-8 text, end to end"
-abbrev pub joined : List (List ℕ) → List ℕ
-joined strings = flatMap (λ s. s) strings
-
--- the spans of strings end to end from byte o on
-unfoldable pub spansFrom : ℕ → List (List ℕ) → List ℕ
-spansFrom o [] = []
-spansFrom o (s ∷ ss) = o ∷ length s ∷ spansFrom (o + length s) ss
 
 -- strings for outputs of these lengths: 34 for the text's bytes, then for the values of the spans
 abbrev pub intoStrings : Result (List (List ℕ)) → ℕ → ℕ → Result (List (List ℕ))

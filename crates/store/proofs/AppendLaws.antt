@@ -2,7 +2,7 @@
 -- Assumes nothing.
 use Prim.Native.Nat.{ℕ, zero, suc, _+_, _-_, _*_, _^_, _≤_, _<_}
 use mathlib.Core.Path.{_≡_, refl, sym, ap, ap₂, _∙_}
-use mathlib.Core.List.{List, [], _∷_, _++_, append-assoc, append-nil, flatMap}
+use mathlib.Core.List.{List, [], _∷_, _++_, append-assoc, append-nil, map, map-append, flatMap}
 use native.Mathlib.Nat.{add-zero}
 use native.Mathlib.Numerals.{add-one}
 use native.Mathlib.Omega.{arith}
@@ -17,9 +17,10 @@ use Rattle.text.proofs.BufferLaws.{put-none, put-one}
 use Rattle.writer.specs.Array.{Array, payload, payloads, payloadSpans, arrayOf, encodePayload}
 use Rattle.writer.specs.FileWrapper.{fileWrapper, buildMetadata}
 use Rattle.writer.specs.Replies.{EncodesPayload, BuildsMetadata}
+use Rattle.writer.specs.Spans.{spansFrom}
 use Rattle.writer.specs.Stages.{arrayIn}
 use Rattle.writer.proofs.FileWrapperLaws.{length-file-wrapper, builds}
-use Rattle.writer.proofs.LayoutLaws.{length-payload-spans}
+use Rattle.writer.proofs.LayoutLaws.{spans-append}
 use Rattle.store.specs.Store.{Store, storeOf, serialize, counted, storedArrays}
 use Rattle.store.specs.Edits.{appended, over, laid, storeAfter}
 use Rattle.store.specs.Replies.{Edits}
@@ -65,11 +66,8 @@ entry-put n offset len d ks f = record {
 -- ---- the parts of the serialization with one array more
 
 spans-last : (o : ℕ) (xs : List Array) (a : Array) → payloadSpans o (xs ++ a ∷ []) ≡ payloadSpans o xs ++ (o + length (payloads xs)) ∷ length (payload a) ∷ []
-unfolding payloadSpans payloads flatMap
-spans-last o [] a = rw add-zero
-spans-last o (x ∷ xs) a =
-    let e : o + length (payload x ++ payloads xs) ≡ o + length (payload x) + length (payloads xs) = omega (arith, length-append (payload x) (payloads xs)) in
-    rw e (ap (λ (l : List ℕ). o ∷ length (payload x) ∷ l) (spans-last (o + length (payload x)) xs a))
+unfolding spansFrom payloads
+spans-last o xs a = ap (spansFrom o) (map-append payload xs (a ∷ [])) ∙ spans-append o (map payload xs) (payload a ∷ [])
 
 payloads-last : (xs : List Array) (a : Array) → payloads (xs ++ a ∷ []) ≡ payloads xs ++ payload a
 unfolding payloads flatMap
