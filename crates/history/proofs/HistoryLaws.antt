@@ -7,7 +7,7 @@ use native.Mathlib.Numerals.{add-one}
 use native.Mathlib.Omega.{arith}
 use lib.ListN.{length, getD, take, drop, set, length-drop, length-append, drop-of-length-le}
 use lib.Seq.{take-all, take-nil, take-at}
-use Rattle.text.specs.Buffer.{put}
+use Rattle.text.specs.Buffer.{put, over}
 use Rattle.text.specs.Errors.{failureOf}
 use Rattle.text.specs.Replies.{lengthReplyOf}
 use Rattle.text.specs.Result.{Result, ok, error, mapResult, checkOutput, overwritten, _>>_}
@@ -22,7 +22,7 @@ use Rattle.writer.specs.Replies.{BuildsMetadata}
 use Rattle.writer.specs.Spans.{spansFrom}
 use Rattle.writer.proofs.FileWrapperLaws.{length-file-wrapper}
 use Rattle.store.specs.Store.{Store, storeOf}
-use Rattle.store.specs.Edits.{appended, replaced, replyOf, storeAfter, over}
+use Rattle.store.specs.Edits.{appended, replaced, replyOf, storeAfter}
 use Rattle.store.specs.Model.{Edit, call, execute}
 use Rattle.store.specs.Replies.{Edits, editReplyOf}
 use Rattle.store.specs.declared.edits.EditReply.{EditReply}

@@ -17,6 +17,7 @@ use Rattle.text.specs.declared.reply.Checked.{Checked}
 use Rattle.text.specs.declared.reply.Checked.the-variants as checked
 use Rattle.text.specs.declared.reply.LengthReply.{LengthReply}
 use Rattle.text.specs.declared.reply.LengthReply.the-variants as reply
+use Rattle.text.proofs.BufferLaws.{length-over}
 use Rattle.text.proofs.ResultLaws.{reply-is, seq-passed, seq-failed}
 use Rattle.text.proofs.TestLaws.{either}
 use Rattle.reader.specs.Objects.{checkBlock, objectRow, triplesFrom, triplesOf, checkTriple, checkTriples, recordRow, recordTriples, objectTriples, rowOf}
@@ -262,7 +263,7 @@ rows-same (ok ts) rows rows' e =
     either (leb (length ts) (length rows))
     (λ t. let h : length ts ≤ length rows = leb-true (length ts) (length rows) t in
     let k : length (map rowOf ts) ≡ length ts = length-map ts rowOf in
-    ap length (simp t at e) ∙ omega (arith, length-append (map rowOf ts) (drop (length (map rowOf ts)) rows), length-drop (length (map rowOf ts)) rows))
+    ap length (simp t at e) ∙ length-over (map rowOf ts) rows (omega arith))
     (λ t. ap length (simp t at e))
 
 pub rows-in-output : {m : Result (List Triple)} {rows rows' : List (List ℕ)} {r : LengthReply} {n : ℕ} → r ≡ reply.Length n → WritesRows m rows r rows' → n ≤ length rows'

@@ -7,10 +7,10 @@ use native.Mathlib.Numerals.{add-one}
 use native.Mathlib.Omega.{arith}
 use lib.ListN.{length, getD, take, drop, set, length-append, length-take, length-drop, length-set, take-append-drop}
 use lib.Seq.{getD-at, getD-set-other, getD-take, length-take-le, set-at, set-getD}
+use Rattle.text.specs.Buffer.{over}
 use Rattle.writer.specs.Array.{Array, noArray, payload, payloads, payloadSpans}
 use Rattle.writer.specs.Spans.{offsetAt, lengthAt, spansFrom}
 use Rattle.writer.proofs.LayoutLaws.{length-payload-spans, payloads-within, span-offset}
-use Rattle.store.specs.Edits.{over}
 use Rattle.store.specs.Moves.{shifted, Shiftable}
 use Rattle.store.proofs.StoreLaws.{length-payload-nth, length-payloads-set}
 

@@ -6,7 +6,8 @@ use mathlib.Core.Bool.{cond}
 use mathlib.Core.List.{List}
 use mathlib.Core.Option.{Option, some, none, Option·map}
 use lib.Dec.{leb, ltb}
-use lib.ListN.{length, drop}
+use lib.ListN.{length}
+use Rattle.text.specs.Buffer.{over}
 use Rattle.text.specs.Errors.{failureOf}
 use Rattle.text.specs.Result.{Result, ok, error, mapResult, needPlace, overwritten}
 use Rattle.text.specs.Utf8.{partsFrom, firstIllFormed, replacedIn, scalars8, unitsOf, beforeZero, lossy}
@@ -66,7 +67,7 @@ pub record WritesLossy (s out : List ℕ) (r : LossyReply) (out' : List ℕ) : T
       r
       ≡ cond (leb (length (lossy s)) (length out)) (lossyReply.Written (length (lossy s)) (replacedIn (partsFrom s 0)))
       (lossyReply.TooShort (needPlace (length (lossy s))))
-  pub buffer : out' ≡ cond (leb (length (lossy s)) (length out)) (lossy s ++ drop (length (lossy s)) out) out
+  pub buffer : out' ≡ cond (leb (length (lossy s)) (length out)) (over (lossy s) out) out
 
 -- a run of checks that holds, or the refusal
 abbrev pub checkedOf : Checked → Result (Unit {0})
