@@ -22,7 +22,7 @@ use Rattle.reader.specs.DecodeStages.{IdFits, IdsThere, IdsFit}
 use Rattle.reader.specs.Opaque.{opaqueMetadata, opaqueReplyOf}
 use Rattle.reader.specs.Opening.{opened}
 use Rattle.reader.specs.Replies.{parseReplyOf}
-use Rattle.reader.specs.Saveobj.{decodePayload}
+use Rattle.reader.specs.Saveobj.{decodePayload, checkOutputs}
 use Rattle.reader.specs.SaveobjStages.{Counts, countsOf, stringsReplyOf, origin, FitsAt, WritesAt, DecodesStrings}
 use Rattle.reader.specs.declared.cells.CellReply.{CellReply}
 use Rattle.reader.specs.declared.cells.CellReply.the-variants as cell
@@ -215,15 +215,16 @@ module _ (directory kinds words metadata : List ℕ) where
 
   -- ---- the outcomes of `write_ids`, beside those of every result
 
-  module _ (first n : ℕ) (there : IdsThere directory kinds words metadata first n) (text spans : List ℕ) {x : StringsReply} {b k : ℕ} (g : x ≡ reply.Strings b k) (e : stringsReplyOf x ≡ mapResult countsOf (ids first n)) where
+  module _ (first n : ℕ) (there : IdsThere directory kinds words metadata first n) {x : StringsReply} {b k : ℕ} (g : x ≡ reply.Strings b k) (e : stringsReplyOf x ≡ mapResult countsOf (ids first n)) where
     -- the values of the spans fit 64 bits
     pub ids-values : 2 * k < 2 ^ 64
     ids-values =
         let c = counts-are (ids first n) (reply-is stringsReplyOf e g) in
         omega (arith, c .2, ids-most first n (c .0) .1)
 
-    pub ids-fit : b ≤ length text → 2 * k ≤ length spans → IdsFit directory kinds words metadata first n (length text) (length spans)
-    ids-fit fits room = record { ids = there; fits = decode-fits (ids first n) text spans x e g fits room }
+    pub ids-fit : (text spans : List ℕ) {y : Checked} → y ≡ checked.Passed → checkedOf y ≡ checkOutputs b k (length text) (length spans)
+        → IdsFit directory kinds words metadata first n (length text) (length spans)
+    ids-fit text spans h o = record { ids = there; fits = decode-fits (ids first n) text spans x e g o h }
 
 -- ---- the outcomes of `decode_string`
 

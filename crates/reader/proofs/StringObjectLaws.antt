@@ -46,7 +46,7 @@ use Rattle.reader.specs.declared.saveobj.StringsReply.the-variants as re
 use Rattle.reader.specs.declared.string_objects.ChosenReply.{ChosenReply}
 use Rattle.reader.specs.declared.string_objects.ChosenReply.the-variants as chosen
 use Rattle.reader.proofs.FindLaws.{first-le, position-none, position-some, seq-bind}
-use Rattle.reader.proofs.PayloadLaws.{decode-refused, decode-short-spans, decode-written}
+use Rattle.reader.proofs.PayloadLaws.{outputs-spans, outputs-fit, decode-refused, decode-short, decode-written}
 use Rattle.reader.proofs.PropertyLaws.{length-triples}
 
 -- ---- the chosen property
@@ -173,12 +173,13 @@ oneEmpty = ok ([] ∷ [])
 module _ (spans : List ℕ) where
   pub empty-short : length spans < 2 → DecodesStrings oneEmpty [] spans (reply.Error (OutputTooShort 2)) [] spans
   unfolding flatMap
-  empty-short h = decode-short-spans oneEmpty [] spans (reply.Strings 0 1) refl refl (omega arith) (omega arith) (omega arith)
+  empty-short h =
+      decode-short oneEmpty [] spans (reply.Strings 0 1) refl refl (outputs-spans 0 1 0 (length spans) (omega arith) (omega arith) (omega arith)) refl
 
   pub empty-written : 2 ≤ length spans → DecodesStrings oneEmpty [] spans (reply.Strings 0 1) [] (set (set spans 0 0) 1 0)
   unfolding flatMap spansFrom
   empty-written h =
-      decode-written oneEmpty [] spans (reply.Strings 0 1) refl refl (omega arith) (omega arith) {next = record { byte = 0; string = 1 }}
+      decode-written oneEmpty [] spans (reply.Strings 0 1) refl refl (outputs-fit 0 1 0 (length spans) (omega arith) (omega arith)) refl {next = record { byte = 0; string = 1 }}
       (record {
         strings = refl;
         writes = record { end = refl; text-after = sym (put-front [] []); spans-after = stores (0 ∷ 0 ∷ []) spans 0 (omega arith) };

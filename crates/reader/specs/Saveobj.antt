@@ -99,10 +99,15 @@ decodedArray payload = record { dims = take (dimCount payload) (drop 2 payload);
 unfoldable pub isCanonicalPayload : List ℕ → Bool
 isCanonicalPayload payload = isOk (decodePayload payload) && same (writer.payload (decodedArray payload)) payload
 
--- strings for outputs of these lengths: 34 for the text's bytes, then for the values of the spans
+-- 34 for the bytes of strings, then for the values of their spans
+abbrev pub checkOutputs : ℕ → ℕ → ℕ → ℕ → Result (Unit {0})
+checkOutputs bytes strings textRoom spanRoom = do
+  checkOutput bytes textRoom
+  checkOutput (2 * strings) spanRoom
+
+-- strings for outputs of these lengths
 abbrev pub intoStrings : Result (List (List ℕ)) → ℕ → ℕ → Result (List (List ℕ))
 intoStrings m textRoom spanRoom = do
   strings ← m
-  checkOutput (length (joined strings)) textRoom
-  checkOutput (2 * length strings) spanRoom
+  checkOutputs (length (joined strings)) (length strings) textRoom spanRoom
   ok strings
