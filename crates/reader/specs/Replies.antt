@@ -16,17 +16,25 @@ use Rattle.reader.specs.declared.file_wrapper.ParseReply.{ParseReply}
 use Rattle.reader.specs.declared.file_wrapper.ParseReply.the-variants as parse
 use Rattle.reader.specs.declared.blocks.BlockCount.{BlockCount}
 use Rattle.reader.specs.declared.blocks.BlockCount.the-variants as count
+use Rattle.reader.specs.declared.classes.ClassReply.{ClassReply}
+use Rattle.reader.specs.declared.classes.ClassReply.the-variants as class
 use Rattle.reader.specs.declared.find.FindReply.{FindReply}
 use Rattle.reader.specs.declared.find.FindReply.the-variants as find
 use Rattle.reader.specs.declared.names.NameReply.{NameReply}
 use Rattle.reader.specs.declared.names.NameReply.the-variants as name
 use Rattle.reader.specs.declared.objects.ObjectRow.{ObjectRow}
+use Rattle.reader.specs.declared.records.ClassEntry.{ClassEntry}
 use Rattle.reader.specs.declared.records.Triple.{Triple}
 
 -- what opening answers, or the refusal
 abbrev pub parseReplyOf : ParseReply → Result FileWrapper
 parseReplyOf (parse.Parsed w) = ok w
 parseReplyOf (parse.Error e) = error (failureOf e)
+
+-- the entry of a class, or the refusal
+abbrev pub classReplyOf : ClassReply → Result ClassEntry
+classReplyOf (class.Entry e) = ok e
+classReplyOf (class.Error e) = error (failureOf e)
 
 -- the blocks of a region, or 7
 abbrev pub blockCountOf : BlockCount → Result ℕ
