@@ -4,10 +4,9 @@ mod print;
 
 use reader::file_wrapper::FileWrapper;
 use reader::file_wrapper::ParseReply;
+use text::reply::LengthReply;
 use text::utf8::LossyReply;
 use text::utf8::Validity;
-use text::utf16::TextReply;
-use writer::string_object::LengthReply;
 
 fn main() {
     of_utf8();
@@ -122,11 +121,11 @@ fn units(label: &[u8], list: &[u16], out: &mut [u8]) {
     print::label(label);
     print::units(list);
     match text::utf16::decode_utf16(list, out) {
-        TextReply::Text(n) => {
+        LengthReply::Length(n) => {
             io::write_all(1, b" ->");
             print::bytes(out, n);
         }
-        TextReply::Error(e) => {
+        LengthReply::Error(e) => {
             print::refusal(e);
         }
     }

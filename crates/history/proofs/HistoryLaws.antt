@@ -7,20 +7,22 @@ use native.Mathlib.Numerals.{add-one}
 use native.Mathlib.Omega.{arith}
 use lib.ListN.{length, getD, take, drop, set, length-drop, length-append, drop-of-length-le}
 use lib.Seq.{take-all, take-nil, take-at}
-use Rattle.text.specs.Buffer.{put}
+use Rattle.text.specs.Buffer.{put, over}
 use Rattle.text.specs.Errors.{failureOf}
+use Rattle.text.specs.Replies.{lengthReplyOf}
 use Rattle.text.specs.Result.{Result, ok, error, mapResult, checkOutput, overwritten, _>>_}
 use Rattle.text.specs.declared.error.Failure.{Failure}
 use Rattle.text.specs.declared.error.MatError.{MatError}
+use Rattle.text.specs.declared.reply.LengthReply.{LengthReply}
+use Rattle.text.specs.declared.reply.LengthReply.the-variants as length-reply
 use Rattle.text.proofs.BufferLaws.{put-none, put-one, SoFar, begins, goes-on, ends}
-use Rattle.writer.specs.Array.{payloads, payloadSpans}
+use Rattle.writer.specs.Array.{payloads}
 use Rattle.writer.specs.FileWrapper.{fileWrapper, buildMetadata}
-use Rattle.writer.specs.Replies.{lengthReplyOf, BuildsMetadata}
-use Rattle.writer.specs.declared.string_object.LengthReply.{LengthReply}
-use Rattle.writer.specs.declared.string_object.LengthReply.the-variants as length-reply
+use Rattle.writer.specs.Replies.{BuildsMetadata}
+use Rattle.writer.specs.Spans.{spansFrom}
 use Rattle.writer.proofs.FileWrapperLaws.{length-file-wrapper}
 use Rattle.store.specs.Store.{Store, storeOf}
-use Rattle.store.specs.Edits.{appended, replaced, replyOf, storeAfter, over}
+use Rattle.store.specs.Edits.{appended, replaced, replyOf, storeAfter}
 use Rattle.store.specs.Model.{Edit, call, execute}
 use Rattle.store.specs.Replies.{Edits, editReplyOf}
 use Rattle.store.specs.declared.edits.EditReply.{EditReply}
@@ -247,7 +249,7 @@ module _ (blob : List ℕ) {r : LengthReply} {blob' : List ℕ} where
 
     module _ (directory kinds words : List ℕ) where
       pub run-begins : {n : ℕ} → r ≡ length-reply.Length n → IsEmpty (storeOf 0 144 0 blob' directory kinds words)
-      unfolding payloads payloadSpans flatMap
+      unfolding payloads spansFrom flatMap
       run-begins e =
           let w = fileWrapper 0 in
           rw (built e .1) (record { is = rw (take-at w (drop (length w) blob) 144 (length-file-wrapper 0), ← length-file-wrapper 0) })

@@ -4,11 +4,11 @@ use Prim.Native.Nat.{ℕ, zero, suc, _+_, _*_, _/_, min}
 use mathlib.Core.Path.{_≡_}
 use mathlib.Core.List.{List, [], _∷_, flatMap}
 use lib.ListN.{length, getD, take, drop}
+use Rattle.text.specs.Buffer.{over}
 use Rattle.text.specs.Errors.{failureOf}
 use Rattle.text.specs.Result.{Result, ok, error, checkOutput}
 use Rattle.writer.specs.FileWrapper.{fileWrapper}
 use Rattle.store.specs.Store.{Store, storeOf}
-use Rattle.store.specs.Edits.{over}
 use Rattle.store.specs.Model.{Edit, append, replace, execute, Edited}
 use Rattle.history.specs.declared.Ran.{Ran}
 use Rattle.history.specs.declared.RunReply.{RunReply}

@@ -6,7 +6,7 @@ use store::edits::Edited;
 use store::replace::replace_at;
 use text::convert::to_usize;
 use text::error::MatError;
-use writer::string_object::LengthReply;
+use text::reply::LengthReply;
 use writer::string_object::build_string_filewrapper_metadata;
 ghost use mathlib.Core.Path.{_≡_};
 ghost use Prim.Native.Nat.{_+_, _*_, _<_, min};

@@ -8,8 +8,8 @@ use lib.ListN.{length, getD}
 use Rattle.text.specs.Result.{Result, ok, error, overwritten}
 use Rattle.text.specs.Utf8.{partsFrom, replacedIn, lossy}
 use Rattle.writer.specs.Array.{Array}
+use Rattle.writer.specs.Spans.{joined, spansFrom}
 use Rattle.reader.specs.Queries.{intoOutput}
-use Rattle.reader.specs.Saveobj.{joined, spansFrom}
 use Rattle.reader.specs.SaveobjStages.{Counts, countsOf}
 use Rattle.reader.specs.declared.file_wrapper.FileWrapper.{FileWrapper}
 use Rattle.reader.specs.declared.labels.Part.{Part}

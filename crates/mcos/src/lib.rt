@@ -14,11 +14,9 @@ use reader::names;
 use reader::names::NameReply;
 use reader::objects;
 use reader::objects::ObjectRow;
-use reader::objects::ObjectsReply;
 use reader::opaque;
 use reader::opaque::OpaqueReply;
 use reader::properties;
-use reader::properties::PropertiesReply;
 use reader::properties::ROW_WIDTH;
 use reader::saveobj;
 use reader::saveobj::StringsReply;
@@ -29,29 +27,28 @@ use store::edits::Edited;
 use store::replace;
 use text::error::MatError;
 use text::latin9;
+use text::reply::LengthReply;
 use text::utf8;
 use text::utf8::LossyReply;
 use text::utf16;
-use text::utf16::TextReply;
 use writer::string_object;
-use writer::string_object::LengthReply;
 ghost use mathlib.Core.Path.{_≡_};
 ghost use mathlib.Core.List.{map};
 ghost use Rattle.text.specs.Errors.{failureOf};
 ghost use Rattle.text.specs.Latin9.{exportLatin9, importLatin9};
-ghost use Rattle.text.specs.Replies.{textReplyOf};
+ghost use Rattle.text.specs.Replies.{lengthReplyOf};
 ghost use Rattle.text.specs.Utf16.{decodeUtf16};
 ghost use Rattle.writer.specs.Array.{encodePayload};
 ghost use Rattle.writer.specs.FileWrapper.{buildMetadata};
 ghost use Rattle.writer.specs.Metadata.{objectMetadata};
-ghost use Rattle.writer.specs.Replies.{lengthReplyOf, measuredPayload};
+ghost use Rattle.writer.specs.Replies.{measuredPayload};
 ghost use Rattle.reader.specs.Decode.{metadataStrings, objectStrings};
 ghost use Rattle.reader.specs.Labels.{labelOf};
 ghost use Rattle.reader.specs.Objects.{findProperty, objectRows, objectTriples, rowOf};
 ghost use Rattle.reader.specs.Opaque.{opaqueMetadata};
 ghost use Rattle.reader.specs.Opening.{opened};
 ghost use Rattle.reader.specs.Queries.{intoOutput, nameText, classText, objectClassText};
-ghost use Rattle.reader.specs.Replies.{nameReplyOf, objectsReplyOf, propertiesReplyOf};
+ghost use Rattle.reader.specs.Replies.{nameReplyOf};
 ghost use Rattle.reader.specs.Saveobj.{decodePayload, intoStrings};
 ghost use Rattle.reader.specs.SaveobjStages.{stringsReplyOf};
 ghost use Rattle.store.specs.Edits.{appended, replaced};
@@ -70,7 +67,9 @@ fn put_error(e: MatError, place: &mut u64) -> u32
 
 // Each of these writes what a reply says, its value or its place, and gives its number.
 fn put_length(reply: LengthReply, length: &mut u64, place: &mut u64) -> u32
-    ensures { λ r. ⌜ Exports (λ x. x) (lengthReplyOf reply) (now (length .entry)) (now (place .entry)) r (now (length .exit)) (now (place .exit)) ⌝ }
+    ensures { λ r. ⌜ (
+        Exports (λ x. x) (lengthReplyOf reply) (now (length .entry)) (now (place .entry)) r
+        (now (length .exit)) (now (place .exit))) ⌝ }
 {
     match reply {
         LengthReply::Length(n) => {
@@ -78,18 +77,6 @@ fn put_length(reply: LengthReply, length: &mut u64, place: &mut u64) -> u32
             0
         }
         LengthReply::Error(e) => put_error(e, place),
-    }
-}
-
-fn put_text(reply: TextReply, bytes: &mut u64, place: &mut u64) -> u32
-    ensures { λ r. ⌜ Exports (λ x. x) (textReplyOf reply) (now (bytes .entry)) (now (place .entry)) r (now (bytes .exit)) (now (place .exit)) ⌝ }
-{
-    match reply {
-        TextReply::Text(n) => {
-            *bytes = n as u64;
-            0
-        }
-        TextReply::Error(e) => put_error(e, place),
     }
 }
 
@@ -102,30 +89,6 @@ fn put_name(reply: NameReply, bytes: &mut u64, place: &mut u64) -> u32
             0
         }
         NameReply::Error(e) => put_error(e, place),
-    }
-}
-
-fn put_rows(reply: PropertiesReply, count: &mut u64, place: &mut u64) -> u32
-    ensures { λ r. ⌜ Exports (λ x. x) (propertiesReplyOf reply) (now (count .entry)) (now (place .entry)) r (now (count .exit)) (now (place .exit)) ⌝ }
-{
-    match reply {
-        PropertiesReply::Rows(n) => {
-            *count = n as u64;
-            0
-        }
-        PropertiesReply::Error(e) => put_error(e, place),
-    }
-}
-
-fn put_objects(reply: ObjectsReply, count: &mut u64, place: &mut u64) -> u32
-    ensures { λ r. ⌜ Exports (λ x. x) (objectsReplyOf reply) (now (count .entry)) (now (place .entry)) r (now (count .exit)) (now (place .exit)) ⌝ }
-{
-    match reply {
-        ObjectsReply::Objects(n) => {
-            *count = n as u64;
-            0
-        }
-        ObjectsReply::Error(e) => put_error(e, place),
     }
 }
 
@@ -165,9 +128,12 @@ pub extern "C" fn mcos_decode_utf16(
     bytes: &mut u64,
     place: &mut u64,
 ) -> u32
-    ensures { λ r. ⌜ ExportsList (λ x. x) (decodeUtf16 (now (units .entry))) (now (text .entry)) (now (bytes .entry)) (now (place .entry)) r (now (text .exit)) (now (bytes .exit)) (now (place .exit)) ⌝ }
+    ensures { λ r. ⌜ (
+        let m = decodeUtf16 (now (units .entry)) in
+        ExportsList (λ x. x) m (now (text .entry)) (now (bytes .entry)) (now (place .entry)) r
+        (now (text .exit)) (now (bytes .exit)) (now (place .exit))) ⌝ }
 {
-    put_text(utf16::decode_utf16(units, text), bytes, place)
+    put_length(utf16::decode_utf16(units, text), bytes, place)
 }
 
 #[no_mangle]
@@ -208,7 +174,7 @@ pub extern "C" fn mcos_export_latin9(
         ExportsList (λ x. x) m (now (out .entry)) (now (bytes .entry)) (now (place .entry)) r
         (now (out .exit)) (now (bytes .exit)) (now (place .exit))) ⌝ }
 {
-    put_text(latin9::export_latin9(text, out), bytes, place)
+    put_length(latin9::export_latin9(text, out), bytes, place)
 }
 
 #[no_mangle]
@@ -223,7 +189,7 @@ pub extern "C" fn mcos_import_latin9(
         ExportsList (λ x. x) m (now (text .entry)) (now (bytes .entry)) (now (place .entry)) r
         (now (text .exit)) (now (bytes .exit)) (now (place .exit))) ⌝ }
 {
-    put_text(latin9::import_latin9(latin9, text), bytes, place)
+    put_length(latin9::import_latin9(latin9, text), bytes, place)
 }
 
 #[no_mangle]
@@ -407,9 +373,12 @@ pub extern "C" fn mcos_properties(
     count: &mut u64,
     place: &mut u64,
 ) -> u32
-    ensures { λ r. ⌜ ExportsList (map rowOf) (intoOutput (objectTriples (now (blob .entry)) «object_id»)) (now (rows .entry)) (now (count .entry)) (now (place .entry)) r (now (rows .exit)) (now (count .exit)) (now (place .exit)) ⌝ }
+    ensures { λ r. ⌜ (
+        let m = intoOutput (objectTriples (now (blob .entry)) «object_id») in
+        ExportsList (map rowOf) m (now (rows .entry)) (now (count .entry)) (now (place .entry)) r
+        (now (rows .exit)) (now (count .exit)) (now (place .exit))) ⌝ }
 {
-    put_rows(properties::properties(blob, object_id, rows), count, place)
+    put_length(properties::properties(blob, object_id, rows), count, place)
 }
 
 #[no_mangle]
@@ -446,7 +415,7 @@ pub extern "C" fn mcos_list_objects(
 ) -> u32
     ensures { λ r. ⌜ ExportsList (λ x. x) (intoOutput (objectRows (now (blob .entry)))) (now (rows .entry)) (now (count .entry)) (now (place .entry)) r (now (rows .exit)) (now (count .exit)) (now (place .exit)) ⌝ }
 {
-    put_objects(objects::list_objects(blob, rows), count, place)
+    put_length(objects::list_objects(blob, rows), count, place)
 }
 
 #[no_mangle]

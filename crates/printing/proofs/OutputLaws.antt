@@ -10,7 +10,7 @@ use borrow.Rule.Slice.PartMut.{midOf, putMid}
 use lib.Dec.{leb}
 use lib.ListN.{length, take, drop, length-append, length-drop}
 use lib.Seq.{take-all, drop-drop, drop-length}
-use Rattle.text.specs.Buffer.{put, Puts}
+use Rattle.text.specs.Buffer.{over, put, Puts}
 use Rattle.text.specs.Result.{ok}
 use Rattle.text.specs.declared.error.MatError.{MatError}
 use Rattle.text.proofs.BufferLaws.{put-front, length-put}
@@ -70,7 +70,7 @@ part-put d w at {part' = part'} h p =
     let all : midOf at k d ≡ drop at d = take-all k (drop at d) (omega (arith, length-drop at d)) in
     let end : at + k ≡ length d = omega arith in
     let none : drop k (drop at d) ≡ [] = drop-drop k at d ∙ rw end (drop-length d) in
-    let e : part' ≡ w ++ drop (length w) (midOf at k d) = p .buffer ∙ put-front (midOf at k d) w in
+    let e : part' ≡ over w (midOf at k d) = p .buffer ∙ put-front (midOf at k d) w in
     rw (none, append-nil part', e, all, drop-drop (length w) at d) (sym (append-assoc (take at d) w (drop (at + length w) d)))
 
 pub added : (w out : List ℕ) (o room : Output) {n : ℕ} {f : Bool} {part' : List ℕ} → Ready o out → MakesRoom out o room

@@ -13,9 +13,9 @@ use reader::file_wrapper::ParseReply;
 use reader::lines::LinePart;
 use reader::names::NameReply;
 use reader::names::name;
-use reader::properties::PropertiesReply;
 use reader::properties::properties;
 use text::error::MatError;
+use text::reply::LengthReply;
 ghost use mathlib.Core.Path.{_≡_};
 ghost use Prim.Native.Nat.{_^_, _≤_, _<_};
 ghost use lib.ListN.{length};
@@ -140,8 +140,8 @@ fn list_properties(
     ensures { λ r. ⌜ Ready r (now (out .exit)) ⌝ }
 {
     match properties(blob, object_id, rows) {
-        PropertiesReply::Rows(n) => list_rows(o, blob, &rows[0..n], text, value, out),
-        PropertiesReply::Error(e) => {
+        LengthReply::Length(n) => list_rows(o, blob, &rows[0..n], text, value, out),
+        LengthReply::Error(e) => {
             let start = put_part(o, LinePart::Property, out);
             put_refusal(start, e, out)
         }

@@ -8,11 +8,11 @@ use lib.ListN.{length, length-append}
 use Rattle.text.specs.Buffer.{put}
 use Rattle.text.specs.Result.{Result, ok, error, mapResult, _>>=_, valuesOf}
 use Rattle.text.proofs.BufferLaws.{put-more, length-put}
-use Rattle.reader.specs.Saveobj.{joined, spansFrom}
+use Rattle.writer.specs.Spans.{joined, spansFrom}
+use Rattle.writer.proofs.LayoutLaws.{joined-append, length-joined, spans-append, length-spans}
 use Rattle.reader.specs.SaveobjStages.{Counts, countsOf, FitsAt, WritesAt}
 use Rattle.reader.specs.declared.saveobj.Position.{Position}
 use Rattle.reader.proofs.PayloadLaws.{counts-are}
-use Rattle.reader.proofs.StringLaws.{joined-append, length-joined, spans-append, length-spans}
 
 abbrev pub Strings : Type 0
 Strings = Result (List (List ℕ))

@@ -26,7 +26,7 @@ use Rattle.reader.specs.Names.{pieces, nameBytes}
 use Rattle.reader.specs.Objects.{checkBlock, blockStart, propertyCount, recordRow, objectOf, triplesFrom, checkTriple, checkTriples, recordTriples, objectTriples, position, findProperty}
 use Rattle.reader.specs.Opening as opening
 use Rattle.reader.specs.Opening.{offset, isWithin, isOrdered, opened}
-use Rattle.reader.specs.Queries.{shown, nameText, entryText, classOf, objectRecord, checkObject, objectClassText}
+use Rattle.reader.specs.Queries.{shown, nameText, checkNames, entryText, entryOf, classOf, objectRecord, checkObject, objectClassText}
 use Rattle.reader.specs.Wire.{u32At}
 use Rattle.reader.specs.declared.file_wrapper.FileWrapper.{FileWrapper}
 use Rattle.reader.specs.declared.records.ObjectRecord.{ObjectRecord}
@@ -242,7 +242,7 @@ module _ (n : ℕ) (few : n ≤ 349522) where
     built-object = ap (recordRow b w) record-is ∙ simp (block-checked, one-property, not-0)
 
     pub class-is : classOf b w (objectRecord b w id .«class_id») ≡ ok stringName
-    unfolding classOf entryText
+    unfolding classOf entryOf entryText checkNames
     class-is =
         ap (λ (r : ObjectRecord). classOf b w (r .«class_id»)) record-is
         ∙ simp (class-word 4 (omega arith), class-word 5 (omega arith)) (ap ok (names-are .1))

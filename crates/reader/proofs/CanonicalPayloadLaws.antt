@@ -22,11 +22,12 @@ use Rattle.text.proofs.SameLaws.{same-refl, same-is}
 use Rattle.text.proofs.TestLaws.{and-is, not-both, equal-or}
 use Rattle.text.proofs.Utf16Laws.{text-units}
 use Rattle.writer.specs.Array.{Array, Accepted, stringUnits, unitCounts, allUnits, stringWords, payload, arrayOf}
-use Rattle.writer.specs.Spans.{offsetAt, lengthAt, stringAt, stringsFrom, isSome, checkString, checkStrings}
+use Rattle.writer.specs.Spans.{offsetAt, lengthAt, stringAt, stringsFrom, isSome, checkString, checkStrings, joined, spansFrom}
 use Rattle.writer.specs.Words.{packed}
+use Rattle.writer.proofs.LayoutLaws.{length-spans}
 use Rattle.writer.proofs.ShapeLaws.{shape-is}
 use Rattle.writer.proofs.WordLaws.{length-packed}
-use Rattle.reader.specs.Saveobj.{dimCount, unitCount, unitsBefore, storedUnits, storedStrings, decodePayload, decodedArray, isCanonicalPayload, joined, spansFrom}
+use Rattle.reader.specs.Saveobj.{dimCount, unitCount, unitsBefore, storedUnits, storedStrings, decodePayload, decodedArray, isCanonicalPayload}
 use Rattle.reader.specs.Saveobj as saveobj
 use Rattle.reader.specs.SaveobjStages.{layoutOf, checkLayout, countsOf, stringsReplyOf, UnitsChecked}
 use Rattle.reader.specs.Units.{unitsIn, isPacked}
@@ -39,7 +40,7 @@ use Rattle.reader.proofs.LengthLaws.{count-missing, count-given, units-
 use Rattle.reader.proofs.PackedLaws.{units-drop, units-append, repacked, padded}
 use Rattle.reader.proofs.PayloadLaws.{PayloadPassed, strings-passed, payload-passed, LayoutPassed, layout-refused, laid-out, counts-are, error-is}
 use Rattle.reader.proofs.RoundTrip.{counts-at}
-use Rattle.reader.proofs.StringLaws.{length-stored, length-spans}
+use Rattle.reader.proofs.StringLaws.{length-stored}
 use Rattle.reader.proofs.UnitLaws.{length-units, units-below}
 
 -- ---- strings end to end

@@ -5,29 +5,31 @@ use mathlib.Core.Bool.{true, false}
 use mathlib.Core.List.{List, [], _∷_, _++_, append-assoc}
 use Prim.Native.Nat.{ℕ, _+_, _-_, _*_, _^_, _≤_, _<_, min}
 use native.Mathlib.Omega.{arith}
-use borrow.Author.Tests.{le-leb, lt-leb, lt-ltb, le-ltb, eq-eqb, ne-eqb}
+use borrow.Author.Tests.{le-leb, lt-leb, leb-true, lt-ltb, le-ltb, eq-eqb, ne-eqb}
 use lib.Dec.{leb}
 use lib.ListN.{length, take, drop, set, length-append, length-set}
 use lib.Seq.{length-slice}
 use Rattle.text.specs.Buffer.{put, Puts, Places}
-use Rattle.text.specs.Replies.{lossyLength}
+use Rattle.text.specs.Replies.{lossyLength, checkedOf}
 use Rattle.text.specs.Result.{ok}
 use Rattle.text.specs.Utf8.{lossy}
 use Rattle.text.specs.declared.error.MatError.{MatError}
 use Rattle.text.specs.declared.error.MatError.the-variants.{ClassIdOutOfRange, NameIndexOutOfRange, OutputTooShort}
+use Rattle.text.specs.declared.reply.Checked.{Checked}
+use Rattle.text.specs.declared.reply.Checked.the-variants as checked
 use Rattle.text.specs.declared.utf8.LossyLength.{LossyLength}
 use Rattle.text.specs.declared.utf8.LossyLength.the-variants as measure
 use Rattle.text.proofs.BufferLaws.{put-front, put-more, length-put, places-fits}
 use Rattle.text.proofs.ByteLaws.{stores}
 use Rattle.text.proofs.LossyLaws.{length-is, too-long-is}
-use Rattle.text.proofs.ResultLaws.{reply-is}
+use Rattle.text.proofs.ResultLaws.{reply-is, check-passed, check-is}
 use Rattle.text.proofs.Utf8Laws.{lossy-le}
 use Rattle.reader.specs.Names.{pieceBytes, HasName, IsName, InBlob, IsLength, BothInBlob}
 use Rattle.reader.specs.Opening.{opened, Opens}
-use Rattle.reader.specs.Queries.{shown, classEntry, shownClass, entryText, classOf, classText, objectRecord, checkObject, objectClassText}
-use Rattle.reader.specs.Replies.{parseReplyOf, checkedOf, WritesText}
-use Rattle.reader.specs.declared.file_wrapper.Checked.{Checked}
-use Rattle.reader.specs.declared.file_wrapper.Checked.the-variants as checked
+use Rattle.reader.specs.Queries.{shown, classEntry, shownClass, checkNames, entryText, entryOf, classOf, classText, objectRecord, checkObject, objectClassText}
+use Rattle.reader.specs.Replies.{parseReplyOf, classReplyOf, WritesText}
+use Rattle.reader.specs.declared.classes.ClassReply.{ClassReply}
+use Rattle.reader.specs.declared.classes.ClassReply.the-variants as class
 use Rattle.reader.specs.declared.file_wrapper.FileWrapper.{FileWrapper}
 use Rattle.reader.specs.declared.file_wrapper.ParseReply.{ParseReply}
 use Rattle.reader.specs.declared.file_wrapper.ParseReply.the-variants as parse
@@ -109,12 +111,42 @@ module _ (b text : List ℕ) (p q : Piece) {n m need : ℕ} (a : IsLength b p n)
             let t : leb (length text-of) (length text) ≡ true = le-leb (length text-of) (length text) (omega (arith, size)) in
             record { reply = simp t (ap ok (sym size)); buffer = simp t (all ∙ put-front text text-of) }
 
+-- ---- 11 for the names of an entry, and 9
+
+module _ (w : FileWrapper) (e : ClassEntry) where
+  pub name-outside : w .names < e .«name_idx» → checkedOf (checked.Failed (NameIndexOutOfRange (e .«name_idx»))) ≡ checkNames w e
+  unfolding checkNames
+  name-outside h = simp (lt-leb (e .«name_idx») (w .names) h)
+
+  module _ (k : e .«name_idx» ≤ w .names) where
+    pub space-outside : w .names < e .«namespace_idx» → checkedOf (checked.Failed (NameIndexOutOfRange (e .«namespace_idx»))) ≡ checkNames w e
+    unfolding checkNames
+    space-outside h = simp (le-leb (e .«name_idx») (w .names) k, lt-leb (e .«namespace_idx») (w .names) h)
+
+    pub names-inside : e .«namespace_idx» ≤ w .names → checkedOf checked.Passed ≡ checkNames w e
+    unfolding checkNames
+    names-inside h = simp (le-leb (e .«name_idx») (w .names) k, le-leb (e .«namespace_idx») (w .names) h)
+
+  names-passed : checkNames w e ≡ ok tt → (e .«name_idx» ≤ w .names) × (e .«namespace_idx» ≤ w .names)
+  unfolding checkNames
+  names-passed g =
+      let p = check-passed 11 (leb (e .«name_idx») (w .names)) (e .«name_idx») _ g in (
+        leb-true (e .«name_idx») (w .names) (p .0),
+        leb-true (e .«namespace_idx») (w .names) (check-is 11 (leb (e .«namespace_idx») (w .names)) (e .«namespace_idx») (p .1)),
+      )
+
+module _ (b : List ℕ) (w : FileWrapper) (c : ℕ) where
+  pub class-outside : w .classes ≤ c → classReplyOf (class.Error (ClassIdOutOfRange c)) ≡ entryOf b w c
+  unfolding entryOf
+  class-outside h = simp (le-ltb c (w .classes) h)
+
+  pub class-inside : c < w .classes → {e : ClassEntry} → e ≡ classEntry b w c → classReplyOf (class.Entry e) ≡ entryOf b w c
+  unfolding entryOf
+  class-inside h is = rw is (simp (lt-ltb c (w .classes) h))
+
 -- ---- the text of a class
 
 module _ {b : List ℕ} {w : FileWrapper} (o : Opens b w) where
-  pub entry-name : {i : ℕ} → i ≤ w .names → HasName b (w .offsets .o0) i
-  entry-name h = record { inside = omega (arith, o); most = omega (arith, o .names) }
-
   entry-piece : {end index : ℕ} {p : Piece} → IsName b end index p → InBlob b p
   entry-piece n = record { order = n .order; inside = n .inside; most = o .most }
 
@@ -124,45 +156,45 @@ module _ {b : List ℕ} {w : FileWrapper} (o : Opens b w) where
   pub entry-both : {end i j : ℕ} {p q : Piece} → IsName b end i p → IsName b end j q → BothInBlob b q p
   entry-both n m = record { first = entry-piece m; second = entry-piece n }
 
-  module _ (e : ClassEntry) where
-    pub entry-outside : (text : List ℕ) → w .names < e .«name_idx» → WritesText (entryText b w e) text (name.Error (NameIndexOutOfRange (e .«name_idx»))) text
+  module _ (e : ClassEntry) {y : Checked} (d : checkedOf y ≡ checkNames w e) where
+    pub entry-refused : (text : List ℕ) {f : MatError} → y ≡ checked.Failed f → WritesText (entryText b w e) text (name.Error f) text
     unfolding entryText
-    entry-outside text k = refused (entryText b w e) text (NameIndexOutOfRange (e .«name_idx»)) (simp (lt-leb (e .«name_idx») (w .names) k))
+    entry-refused text {f} g = refused (entryText b w e) text f (rw (reply-is checkedOf d g))
 
-    module _ (k : e .«name_idx» ≤ w .names) where
-      pub space-outside : (text : List ℕ) → w .names < e .«namespace_idx» → WritesText (entryText b w e) text (name.Error (NameIndexOutOfRange (e .«namespace_idx»))) text
+    module _ (g : y ≡ checked.Passed) where
+      pub has-name : HasName b (w .offsets .o0) (e .«name_idx»)
+      has-name = let k = names-passed w e (reply-is checkedOf d g) in record { inside = omega (arith, o); most = omega (arith, o .names) }
+
+      pub has-space : HasName b (w .offsets .o0) (e .«namespace_idx»)
+      has-space = let k = names-passed w e (reply-is checkedOf d g) in record { inside = omega (arith, o); most = omega (arith, o .names) }
+
+      entry-is : entryText b w e ≡ ok (shownClass b w e)
       unfolding entryText
-      space-outside text l =
-          refused (entryText b w e) text (NameIndexOutOfRange (e .«namespace_idx»))
-          (simp (le-leb (e .«name_idx») (w .names) k, lt-leb (e .«namespace_idx») (w .names) l))
+      entry-is = rw (reply-is checkedOf d g)
 
-      entry-is : e .«namespace_idx» ≤ w .names → entryText b w e ≡ ok (shownClass b w e)
-      unfolding entryText
-      entry-is l = simp (le-leb (e .«name_idx») (w .names) k, le-leb (e .«namespace_idx») (w .names) l)
-
-      module _ (l : e .«namespace_idx» ≤ w .names) {p : Piece} (n : IsName b (w .offsets .o0) (e .«name_idx») p) {text text' : List ℕ} {r : NameReply} where
+      module _ {p : Piece} (n : IsName b (w .offsets .o0) (e .«name_idx») p) {text text' : List ℕ} {r : NameReply} where
         pub entry-plain : e .«namespace_idx» ≡ 0 → WritesText (ok (lossy (pieceBytes b p))) text r text' → WritesText (entryText b w e) text r text'
         entry-plain z t =
             let m : shownClass b w e ≡ shown b w (e .«name_idx») = simp (eq-eqb (e .«namespace_idx») 0 z) in
-            rw (entry-is l ∙ ap ok m) (rw (n .is) at t)
+            rw (entry-is ∙ ap ok m) (rw (n .is) at t)
 
         pub entry-joined : (e .«namespace_idx» ≡ 0 → ⊥) → {q : Piece} → IsName b (w .offsets .o0) (e .«namespace_idx») q
             → WritesText (ok (lossy (pieceBytes b q) ++ 0x2E ∷ lossy (pieceBytes b p))) text r text' → WritesText (entryText b w e) text r text'
         entry-joined z q t =
             let m : shownClass b w e ≡ shown b w (e .«namespace_idx») ++ 0x2E ∷ shown b w (e .«name_idx») = simp (ne-eqb (e .«namespace_idx») 0 z) in
-            rw (entry-is l ∙ ap ok m) (rw (n .is, q .is) at t)
+            rw (entry-is ∙ ap ok m) (rw (n .is, q .is) at t)
 
-  module _ (c : ℕ) where
-    pub class-outside : (text : List ℕ) → w .classes ≤ c → WritesText (classOf b w c) text (name.Error (ClassIdOutOfRange c)) text
-    unfolding classOf
-    class-outside text h = refused (classOf b w c) text (ClassIdOutOfRange c) (simp (le-ltb c (w .classes) h))
+module _ (b : List ℕ) (w : FileWrapper) (c : ℕ) {x : ClassReply} (d : classReplyOf x ≡ entryOf b w c) where
+  pub no-class : (text : List ℕ) {f : MatError} → x ≡ class.Error f → WritesText (classOf b w c) text (name.Error f) text
+  unfolding classOf
+  no-class text {f} g = refused (classOf b w c) text f (rw (reply-is classReplyOf d g))
 
-    pub class-entry : c < w .classes → {e : ClassEntry} → e ≡ classEntry b w c → {text text' : List ℕ} {r : NameReply}
-        → WritesText (entryText b w e) text r text' → WritesText (classOf b w c) text r text'
-    unfolding classOf
-    class-entry h {e} is {text} {text'} {r} t =
-        let m : classOf b w c ≡ entryText b w e = rw is (simp (lt-ltb c (w .classes) h)) in
-        rw m t
+  pub class-entry : {e : ClassEntry} → x ≡ class.Entry e → {text text' : List ℕ} {r : NameReply}
+      → WritesText (entryText b w e) text r text' → WritesText (classOf b w c) text r text'
+  unfolding classOf
+  class-entry {e} g {text} {text'} {r} t =
+      let m : classOf b w c ≡ entryText b w e = rw (reply-is classReplyOf d g) in
+      rw m t
 
 -- ---- the public calls
 

@@ -6,23 +6,26 @@ use mathlib.Core.List.{List, [], flatMap}
 use native.Mathlib.Omega.{arith}
 use lib.ListN.{length, getD, take, drop, length-append}
 use Rattle.text.specs.Errors.{failureOf}
+use Rattle.text.specs.Replies.{checkedOf}
 use Rattle.text.specs.Result.{Result, ok, error, mapResult, valuesOf}
 use Rattle.text.specs.declared.error.MatError.{MatError}
+use Rattle.text.specs.declared.reply.Checked.{Checked}
+use Rattle.text.specs.declared.reply.Checked.the-variants as checked
 use Rattle.text.proofs.BufferLaws.{put-none}
 use Rattle.text.proofs.ResultLaws.{reply-is, bind-passed}
+use Rattle.writer.specs.Spans.{joined, spansFrom}
+use Rattle.writer.proofs.LayoutLaws.{length-joined}
 use Rattle.reader.specs.CellStages.{ReadsCell}
 use Rattle.reader.specs.Cells.{checkDirectory, cellOf}
 use Rattle.reader.specs.Decode.{idStrings, idsStrings, metadataStrings}
 use Rattle.reader.specs.DecodeStages.{IdFits, IdsThere, IdsFit}
 use Rattle.reader.specs.Opaque.{opaqueMetadata, opaqueReplyOf}
 use Rattle.reader.specs.Opening.{opened}
-use Rattle.reader.specs.Replies.{parseReplyOf, checkedOf}
-use Rattle.reader.specs.Saveobj.{decodePayload, joined, spansFrom}
+use Rattle.reader.specs.Replies.{parseReplyOf}
+use Rattle.reader.specs.Saveobj.{decodePayload, checkOutputs}
 use Rattle.reader.specs.SaveobjStages.{Counts, countsOf, stringsReplyOf, origin, FitsAt, WritesAt, DecodesStrings}
 use Rattle.reader.specs.declared.cells.CellReply.{CellReply}
 use Rattle.reader.specs.declared.cells.CellReply.the-variants as cell
-use Rattle.reader.specs.declared.file_wrapper.Checked.{Checked}
-use Rattle.reader.specs.declared.file_wrapper.Checked.the-variants as checked
 use Rattle.reader.specs.declared.file_wrapper.FileWrapper.{FileWrapper}
 use Rattle.reader.specs.declared.file_wrapper.ParseReply.{ParseReply}
 use Rattle.reader.specs.declared.file_wrapper.ParseReply.the-variants as parse
@@ -36,7 +39,6 @@ use Rattle.reader.proofs.BothLaws.{Strings, both, both-none, none-both,
 use Rattle.reader.proofs.CellLaws.{found-is, found-not}
 use Rattle.reader.proofs.OpaqueLaws.{opaque-passed}
 use Rattle.reader.proofs.PayloadLaws.{counts-are, error-is, payload-most, decode-refused, decode-fits}
-use Rattle.reader.proofs.StringLaws.{length-joined}
 
 -- ---- the outcomes of `measure_id` and `put_id`
 
@@ -213,15 +215,16 @@ module _ (directory kinds words metadata : List ℕ) where
 
   -- ---- the outcomes of `write_ids`, beside those of every result
 
-  module _ (first n : ℕ) (there : IdsThere directory kinds words metadata first n) (text spans : List ℕ) {x : StringsReply} {b k : ℕ} (g : x ≡ reply.Strings b k) (e : stringsReplyOf x ≡ mapResult countsOf (ids first n)) where
+  module _ (first n : ℕ) (there : IdsThere directory kinds words metadata first n) {x : StringsReply} {b k : ℕ} (g : x ≡ reply.Strings b k) (e : stringsReplyOf x ≡ mapResult countsOf (ids first n)) where
     -- the values of the spans fit 64 bits
     pub ids-values : 2 * k < 2 ^ 64
     ids-values =
         let c = counts-are (ids first n) (reply-is stringsReplyOf e g) in
         omega (arith, c .2, ids-most first n (c .0) .1)
 
-    pub ids-fit : b ≤ length text → 2 * k ≤ length spans → IdsFit directory kinds words metadata first n (length text) (length spans)
-    ids-fit fits room = record { ids = there; fits = decode-fits (ids first n) text spans x e g fits room }
+    pub ids-fit : (text spans : List ℕ) {y : Checked} → y ≡ checked.Passed → checkedOf y ≡ checkOutputs b k (length text) (length spans)
+        → IdsFit directory kinds words metadata first n (length text) (length spans)
+    ids-fit text spans h o = record { ids = there; fits = decode-fits (ids first n) text spans x e g o h }
 
 -- ---- the outcomes of `decode_string`
 

@@ -18,7 +18,7 @@ use Rattle.reader.specs.Lines.{decimal, digits, lineText}
 use Rattle.reader.specs.Names.{nameBytes}
 use Rattle.reader.specs.Objects.{objectRows, objectsFrom, objectTriples, findProperty}
 use Rattle.reader.specs.Opening.{emptyWrapper, opened}
-use Rattle.reader.specs.Queries.{intoOutput, nameText, classOf, classText, checkObject, objectClassText}
+use Rattle.reader.specs.Queries.{intoOutput, nameText, entryOf, classOf, classText, checkObject, objectClassText}
 use Rattle.reader.specs.declared.file_wrapper.FileWrapper.{FileWrapper}
 use Rattle.reader.specs.declared.lines.LinePart.the-variants as part
 use Rattle.reader.proofs.LabelLaws.{label-zero}
@@ -53,7 +53,7 @@ unfolding labelOf
 empty-label-refused placeholder i h = rw empty-opens (simp (lt-leb i 0 h))
 
 pub empty-class-refused : (c : ℕ) → classText [] c ≡ error (record { number = 9; place = c })
-unfolding classText classOf
+unfolding classText classOf entryOf
 empty-class-refused c = rw empty-opens (simp (le-ltb c 0 (omega arith)))
 
 -- no rows, into a list of any length

@@ -11,13 +11,13 @@ use denote.Ref.{RefT}
 use lib.Dec.{eqb, leb, ltb}
 use lib.ListN.{length, getD, take, drop}
 use lib.Seq.{slice, length-slice, take-take, drop-drop}
-use Rattle.text.specs.Replies.{terminatedLength, terminatedOf}
+use Rattle.text.specs.Replies.{terminatedLength, lengthOf}
 use Rattle.text.specs.Result.{Result, ok, error}
 use Rattle.text.specs.Utf8.{partsFrom, replacedIn, scalars8, beforeZero}
 use Rattle.text.specs.declared.error.MatError.{MatError}
 use Rattle.text.specs.declared.error.MatError.the-variants.{NameIndexOutOfRange, NameIllFormed}
-use Rattle.text.specs.declared.utf8.TerminatedLength.{TerminatedLength}
-use Rattle.text.specs.declared.utf8.TerminatedLength.the-variants as terminated
+use Rattle.text.specs.declared.utf8.TextLength.{TextLength}
+use Rattle.text.specs.declared.utf8.TextLength.the-variants as textLength
 use Rattle.text.proofs.LossyLaws.{none-replaced, part-replaced}
 use Rattle.text.proofs.ResultLaws.{reply-is, same-value, orError-passed, check-passed, seq-passed, bind-passed}
 use Rattle.text.proofs.TerminatedLaws.{terminated-is, terminated-not}
@@ -215,15 +215,15 @@ module _ (b placeholder : List ℕ) (i : ℕ) {x : ParseReply} (e : parseReplyOf
     pub source-zero : {m : Result Part} → i ≡ 0 → m ≡ ok (placeholderPart (length placeholder)) → m ≡ labelOf b placeholder i
     source-zero z u = u ∙ sym (ap (labelOf b placeholder) z ∙ label-zero b placeholder (reply-is parseReplyOf e g))
 
-    module _ (h : i ≤ w .names) (some : i ≡ 0 → ⊥) {start : ℕ} (s : Starts b (w .offsets .o0) i start) (v : TerminatedLength)
-        (said : terminatedOf v ≡ terminatedLength (take (w .offsets .o0 - start) (drop start b))) where
+    module _ (h : i ≤ w .names) (some : i ≡ 0 → ⊥) {start : ℕ} (s : Starts b (w .offsets .o0) i start) (v : TextLength)
+        (said : lengthOf v ≡ terminatedLength (take (w .offsets .o0 - start) (drop start b))) where
       own : beforeZero (take (w .offsets .o0 - start) (drop start b)) ≡ ownBytes b w i
       own = ap beforeZero (part-slice start (w .offsets .o0) b (s .inside)) ∙ starts-name some s
 
-      pub source-ill-formed : v ≡ terminated.IllFormed → labelReplyOf (reply.Error (NameIllFormed i)) ≡ labelOf b placeholder i
+      pub source-ill-formed : v ≡ textLength.IllFormed → labelReplyOf (reply.Error (NameIllFormed i)) ≡ labelOf b placeholder i
       source-ill-formed f = sym (ill-formed b placeholder i (reply-is parseReplyOf e g) h (ap scalars8 (sym own) ∙ terminated-not _ said f))
 
-      module _ {n : ℕ} (f : v ≡ terminated.Length n) where
+      module _ {n : ℕ} (f : v ≡ textLength.Length n) where
         told : labelOf b placeholder i ≡ ok (namePart b placeholder w i)
         told = well-formed b placeholder i (reply-is parseReplyOf e g) h (ap scalars8 (sym own) ∙ terminated-is _ said f .1 .0)
 

@@ -10,19 +10,22 @@ use borrow.Author.Tests.{le-leb, lt-leb, leb-true}
 use lib.Dec.{leb}
 use lib.ListN.{length, getD, take, drop, set, length-append, length-drop}
 use lib.Seq.{length-take-le, take-length}
+use Rattle.text.specs.Replies.{checkedOf, lengthReplyOf}
 use Rattle.text.specs.Result.{Result, ok, error, mapResult, overwritten, _>>_, _>>=_, valuesOf}
 use Rattle.text.specs.declared.error.Failure.{Failure}
 use Rattle.text.specs.declared.error.MatError.{MatError}
 use Rattle.text.specs.declared.error.MatError.the-variants.{OutputTooShort}
+use Rattle.text.specs.declared.reply.Checked.{Checked}
+use Rattle.text.specs.declared.reply.Checked.the-variants as checked
+use Rattle.text.specs.declared.reply.LengthReply.{LengthReply}
+use Rattle.text.specs.declared.reply.LengthReply.the-variants as reply
 use Rattle.text.proofs.ResultLaws.{reply-is, seq-passed, seq-failed, bind-passed}
 use Rattle.text.proofs.TestLaws.{either}
 use Rattle.reader.specs.Objects.{checkBlock, objectRow, recordRow, objectOf, objectsFrom, objectRows}
 use Rattle.reader.specs.ObjectStages.{firstBlocks, AreCursors, ToObject, objectReplyOf, Stands, ReadsObject, checkObjects, allObjects, noRow, blankRows, listingReplyOf, lastRow, countOf, Listable, IsListing, Lists, ToNext, NextObject}
 use Rattle.reader.specs.Opening.{opened, Opens}
 use Rattle.reader.specs.Queries.{objectRecord, intoOutput}
-use Rattle.reader.specs.Replies.{parseReplyOf, checkedOf, objectsReplyOf, WritesObjects}
-use Rattle.reader.specs.declared.file_wrapper.Checked.{Checked}
-use Rattle.reader.specs.declared.file_wrapper.Checked.the-variants as checked
+use Rattle.reader.specs.Replies.{parseReplyOf, WritesObjects}
 use Rattle.reader.specs.declared.file_wrapper.FileWrapper.{FileWrapper}
 use Rattle.reader.specs.declared.file_wrapper.ParseReply.{ParseReply}
 use Rattle.reader.specs.declared.file_wrapper.ParseReply.the-variants as parse
@@ -33,8 +36,6 @@ use Rattle.reader.specs.declared.objects.ObjectReply.{ObjectReply}
 use Rattle.reader.specs.declared.objects.ObjectReply.the-variants as object
 use Rattle.reader.specs.declared.objects.ObjectRow.{ObjectRow}
 use Rattle.reader.specs.declared.records.ObjectRecord.{ObjectRecord}
-use Rattle.reader.specs.declared.objects.ObjectsReply.{ObjectsReply}
-use Rattle.reader.specs.declared.objects.ObjectsReply.the-variants as objects
 use Rattle.reader.proofs.NameLaws.{parsed}
 use Rattle.reader.proofs.ObjectLaws.{cursors-start}
 
@@ -224,7 +225,7 @@ module _ {x : Listing} where
     pub count-listed : n ≡ countOf (listingReplyOf x)
     count-listed = rw g
 
-    pub reply-listed : objectsReplyOf (objects.Objects n) ≡ listingReplyOf x
+    pub reply-listed : lengthReplyOf (reply.Length n) ≡ listingReplyOf x
     reply-listed = rw g
 
     pub row-read : row ≡ lastRow x
@@ -234,7 +235,7 @@ module _ {x : Listing} where
     pub count-refused : 0 ≡ countOf (listingReplyOf x)
     count-refused = rw g
 
-    pub reply-refused : objectsReplyOf (objects.Error e) ≡ listingReplyOf x
+    pub reply-refused : lengthReplyOf (reply.Error e) ≡ listingReplyOf x
     reply-refused = rw g
 
     pub row-none : {row : ObjectRow} → row ≡ noRow → row ≡ lastRow x
@@ -296,6 +297,6 @@ module _ {b : List ℕ} {room : ℕ} {x : Listing} (s : Lists b room x) where
   pub listed-next : {i : ℕ} {x' : Listing} → NextObject b x i x' → Lists b room x'
   listed-next n = record { reply = n .reply ∙ s .reply; is = n .is }
 
-pub listed : {b : List ℕ} {rows : List ObjectRow} {x : Listing} → Lists b (length rows) x → {r : ObjectsReply} → objectsReplyOf r ≡ listingReplyOf x
+pub listed : {b : List ℕ} {rows : List ObjectRow} {x : Listing} → Lists b (length rows) x → {r : LengthReply} → lengthReplyOf r ≡ listingReplyOf x
     → WritesObjects b rows r (filled (allObjects b) (written (objectRows b) (length rows)) rows)
 listed {b} {rows} s e = record { reply = e ∙ s .reply; buffer = written-all (objectRows b) rows }

@@ -7,7 +7,7 @@ use Prim.Native.Nat.{ℕ, zero, suc, _-_, _^_, _≤_, _<_}
 use native.Mathlib.Omega.{arith}
 use borrow.Author.Tests.{le-leb, lt-leb, leb-true}
 use lib.Dec.{leb, eqb}
-use lib.ListN.{length, take, drop, length-append, length-drop}
+use lib.ListN.{length, take, drop}
 use lib.Seq.{slice}
 use Rattle.text.specs.Errors.{failureOf}
 use Rattle.text.specs.Replies.{WritesLossy}
@@ -17,6 +17,7 @@ use Rattle.text.specs.declared.error.MatError.{MatError}
 use Rattle.text.specs.declared.error.MatError.the-variants.{NameIndexOutOfRange, OutputTooShort}
 use Rattle.text.specs.declared.utf8.LossyReply.{LossyReply}
 use Rattle.text.specs.declared.utf8.LossyReply.the-variants as lossyReply
+use Rattle.text.proofs.BufferLaws.{length-over}
 use Rattle.text.proofs.ResultLaws.{reply-is, same-value, check-passed, seq-passed, bind-passed, checkEach-passed}
 use Rattle.text.proofs.TestLaws.{either}
 use Rattle.reader.specs.Blocks.{blocks}
@@ -149,11 +150,8 @@ same-by : (m : Result (List ℕ)) (text text' : List ℕ) → text' ≡ overwrit
 same-by (error e) text text' w = ap length w
 same-by (ok t) text text' w =
     either (leb (length t) (length text))
-    (λ h. ap length (simp h at w) ∙ length-front t text (leb-true (length t) (length text) h))
+    (λ h. ap length (simp h at w) ∙ length-over t text (leb-true (length t) (length text) h))
     (λ h. ap length (simp h at w))
-  where
-    length-front : (t text : List ℕ) → length t ≤ length text → length (t ++ drop (length t) text) ≡ length text
-    length-front t text h = omega (arith, length-append t (drop (length t) text), length-drop (length t) text)
 
 pub text-same : {m : Result (List ℕ)} {text text' : List ℕ} {r : NameReply} → WritesText m text r text' → length text' ≡ length text
 text-same {m} {text} {text'} w = same-by m text text' (w .buffer)

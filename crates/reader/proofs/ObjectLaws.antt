@@ -8,8 +8,11 @@ use native.Mathlib.Omega.{arith}
 use borrow.Author.Tests.{eq-eqb, ne-eqb, le-leb, lt-ltb, le-ltb, ltb-true}
 use lib.Dec.{leb, eqb, ltb}
 use lib.ListN.{length}
+use Rattle.text.specs.Replies.{checkedOf}
 use Rattle.text.specs.Result.{ok, check}
 use Rattle.text.specs.declared.error.MatError.the-variants.{ObjectIdOutOfRange, PropertyBlockIdOutOfRange}
+use Rattle.text.specs.declared.reply.Checked.{Checked}
+use Rattle.text.specs.declared.reply.Checked.the-variants as checked
 use Rattle.text.proofs.ResultLaws.{reply-is, check-passed, check-is}
 use Rattle.text.proofs.TestLaws.{either}
 use Rattle.reader.specs.Blocks.{blockEnd, blockAt, HasBlock, IsCursor, cursorAt}
@@ -17,11 +20,8 @@ use Rattle.reader.specs.Objects.{regionOf, blockIdOf, regionStart, regio
 use Rattle.reader.specs.ObjectStages.{blockOf, rowFrom, cursorOf, withCursor, firstBlocks, AreCursors, ToBlock, ToObject, ReadsObject}
 use Rattle.reader.specs.Opening.{Opens}
 use Rattle.reader.specs.Queries.{checkObject, objectRecord}
-use Rattle.reader.specs.Replies.{checkedOf}
 use Rattle.reader.specs.Wire.{u32At}
 use Rattle.reader.specs.declared.blocks.Cursor.{Cursor}
-use Rattle.reader.specs.declared.file_wrapper.Checked.{Checked}
-use Rattle.reader.specs.declared.file_wrapper.Checked.the-variants as checked
 use Rattle.reader.specs.declared.file_wrapper.FileWrapper.{FileWrapper}
 use Rattle.reader.specs.declared.objects.BlockId.{BlockId}
 use Rattle.reader.specs.declared.objects.Cursors.{Cursors}

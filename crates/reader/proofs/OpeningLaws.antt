@@ -7,18 +7,19 @@ use native.Mathlib.Omega.{arith}
 use borrow.Author.Tests.{le-leb, lt-leb, leb-true, eq-eqb, ne-eqb}
 use lib.ListN.{length}
 use lib.Seq.{slice}
+use Rattle.text.specs.Replies.{checkedOf}
 use Rattle.text.specs.Result.{Result, ok, checkEach}
 use Rattle.text.specs.declared.error.MatError.{MatError}
 use Rattle.text.specs.declared.error.MatError.the-variants.{BlobTooLong, BlobTooShort, OffsetOutOfBounds, NameHeapTooEarly, OffsetsDescending, TooFewNames, PropertyBlockTruncated}
+use Rattle.text.specs.declared.reply.Checked.{Checked}
+use Rattle.text.specs.declared.reply.Checked.the-variants as checked
 use Rattle.text.proofs.ResultLaws.{reply-is, checkEach-passed, Checks, checks-start, checks-turn, checks-stop, checks-last}
 use Rattle.reader.specs.Blocks.{blocks, IsRegion}
 use Rattle.reader.specs.Names.{pieces}
 use Rattle.reader.specs.Opening.{declaredNames, offset, offsets, isWithin, isOrdered, pieceCount, regions, layout, emptyWrapper, opened, Ordered}
-use Rattle.reader.specs.Replies.{parseReplyOf, checkedOf, blockCountOf}
+use Rattle.reader.specs.Replies.{parseReplyOf, blockCountOf}
 use Rattle.reader.specs.declared.blocks.BlockCount.{BlockCount}
 use Rattle.reader.specs.declared.blocks.BlockCount.the-variants as count
-use Rattle.reader.specs.declared.file_wrapper.Checked.{Checked}
-use Rattle.reader.specs.declared.file_wrapper.Checked.the-variants as checked
 use Rattle.reader.specs.declared.file_wrapper.FileWrapper.{FileWrapper}
 use Rattle.reader.specs.declared.file_wrapper.Offsets.{Offsets}
 use Rattle.reader.specs.declared.file_wrapper.ParseReply.the-variants as parse

@@ -12,14 +12,18 @@ use borrow.Author.Tests.{le-leb, lt-leb, leb-true}
 use lib.Dec.{leb}
 use lib.ListN.{length}
 use Rattle.text.specs.Errors.{failureOf}
-use Rattle.text.specs.Result.{Result, ok, error, mapResult, checkEach, overwritten, valuesOf, _>>_, _>>=_}
+use Rattle.text.specs.Replies.{checkedOf}
+use Rattle.text.specs.Result.{Result, ok, error, mapResult, checkEach, needPlace, overwritten, valuesOf, _>>_, _>>=_}
 use Rattle.text.specs.Utf16.{textOf, theText}
 use Rattle.text.specs.declared.error.Failure.{Failure}
 use Rattle.text.specs.declared.error.MatError.{MatError}
 use Rattle.text.specs.declared.error.MatError.the-variants.{OutputTooShort}
+use Rattle.text.specs.declared.reply.Checked.{Checked}
+use Rattle.text.specs.declared.reply.Checked.the-variants as checked
 use Rattle.text.proofs.BufferLaws.{put-front}
-use Rattle.text.proofs.ResultLaws.{reply-is, seq-passed, bind-passed, checkEach-passed, check-is, Checks, checks-start, checks-turn, checks-stop}
-use Rattle.reader.specs.Saveobj.{unitsBefore, Header, storedUnits, storedStrings, checkHeader, checkSum, checkLengths, checkStrings, decodePayload, joined, spansFrom, intoStrings}
+use Rattle.text.proofs.ResultLaws.{reply-is, check-passed, seq-passed, bind-passed, checkEach-passed, check-is, Checks, checks-start, checks-turn, checks-stop}
+use Rattle.writer.specs.Spans.{joined, spansFrom}
+use Rattle.reader.specs.Saveobj.{unitsBefore, Header, storedUnits, storedStrings, checkHeader, checkSum, checkLengths, checkStrings, decodePayload, checkOutputs, intoStrings}
 use Rattle.reader.specs.SaveobjStages.{numberOf, headerOf, Layout, layoutOf, checkLayout, Counts, countsOf, stringsReplyOf, UnitsChecked, StringsFit, WritesStrings, origin, FitsAt, WritesAt, DecodesStrings}
 use Rattle.reader.specs.declared.saveobj.HeaderReply.{HeaderReply}
 use Rattle.reader.specs.declared.saveobj.HeaderReply.the-variants as header
@@ -274,6 +278,25 @@ error-is (error g) {f} e =
     let k : g ≡ f = cc in
     ap error k
 
+-- ---- 34 for the text and the spans of strings
+
+module _ (b n textRoom spanRoom : ℕ) where
+  pub outputs-text : b < 2 ^ 64 → textRoom < b → checkedOf (checked.Failed (OutputTooShort b)) ≡ checkOutputs b n textRoom spanRoom
+  outputs-text f h = let p : min b (2 ^ 64 - 1) ≡ b = omega arith in simp (lt-leb b textRoom h, p)
+
+  module _ (fits : b ≤ textRoom) where
+    pub outputs-spans : 2 * n < 2 ^ 64 → spanRoom < 2 * n → checkedOf (checked.Failed (OutputTooShort (2 * n))) ≡ checkOutputs b n textRoom spanRoom
+    outputs-spans f h = let p : min (2 * n) (2 ^ 64 - 1) ≡ 2 * n = omega arith in simp (le-leb b textRoom fits, lt-leb (2 * n) spanRoom h, p)
+
+    pub outputs-fit : 2 * n ≤ spanRoom → checkedOf checked.Passed ≡ checkOutputs b n textRoom spanRoom
+    outputs-fit h = simp (le-leb b textRoom fits, le-leb (2 * n) spanRoom h)
+
+  outputs-passed : checkOutputs b n textRoom spanRoom ≡ ok tt → (b ≤ textRoom) × (2 * n ≤ spanRoom)
+  outputs-passed e =
+      let t = check-passed 34 (leb b textRoom) (needPlace b) _ e in
+      let s = check-is 34 (leb (2 * n) spanRoom) (needPlace (2 * n)) (t .1) in
+      (leb-true b textRoom (t .0), leb-true (2 * n) spanRoom s)
+
 -- ---- what a call comes to that writes the strings of a result
 
 module _ (m : Result (List (List ℕ))) (text spans : List ℕ) where
@@ -294,41 +317,28 @@ module _ (m : Result (List (List ℕ))) (text spans : List ℕ) where
       counts : (m ≡ ok (valuesOf m)) × (length (joined (valuesOf m)) ≡ b) × (length (valuesOf m) ≡ n)
       counts = counts-are m (reply-is stringsReplyOf e g)
 
-      short : (need : ℕ) → intoStrings m (length text) (length spans) ≡ error (record { number = 34; place = need })
-          → DecodesStrings m text spans (reply.Error (OutputTooShort need)) text spans
-      short need d = comes (error (record { number = 34; place = need })) d refl refl refl
+      module _ {y : Checked} (o : checkedOf y ≡ checkOutputs b n (length text) (length spans)) where
+        fitted : {z : Checked} → y ≡ z → intoStrings m (length text) (length spans) ≡ (checkedOf z >> ok (valuesOf m))
+        fitted h =
+            ap (λ (k : Result (List (List ℕ))). intoStrings k (length text) (length spans)) (counts .0)
+            ∙ rw (counts .1, counts .2) (rw (reply-is checkedOf o h))
 
-      pub decode-short-text : b < 2 ^ 64 → length text < b → DecodesStrings m text spans (reply.Error (OutputTooShort b)) text spans
-      decode-short-text f h =
-          let l = counts .1 in
-          let p : min (length (joined (valuesOf m))) (2 ^ 64 - 1) ≡ b = omega arith in
-          short b (ap (λ (y : Result (List (List ℕ))). intoStrings y (length text) (length spans)) (counts .0) ∙ simp (lt-leb (length (joined (valuesOf m))) (length text) (omega arith), p))
+        pub decode-short : {f : MatError} → y ≡ checked.Failed f → DecodesStrings m text spans (reply.Error f) text spans
+        decode-short {f} h = comes (error (failureOf f)) (fitted h) refl refl refl
 
-      module _ (fits : b ≤ length text) where
-        pub decode-short-spans : 2 * n < 2 ^ 64 → length spans < 2 * n → DecodesStrings m text spans (reply.Error (OutputTooShort (2 * n))) text spans
-        decode-short-spans f h =
-            let l = counts .1 in
-            let k = counts .2 in
-            let p : min (2 * length (valuesOf m)) (2 ^ 64 - 1) ≡ 2 * n = omega arith in
-            short (2 * n)
-            (ap (λ (y : Result (List (List ℕ))). intoStrings y (length text) (length spans)) (counts .0)
-            ∙ simp
-            (le-leb (length (joined (valuesOf m))) (length text) (omega arith), lt-leb (2 * length (valuesOf m)) (length spans) (omega arith), p))
+        module _ (h : y ≡ checked.Passed) where
+          pub decode-fits : FitsAt m (length text) (length spans) origin
+          decode-fits =
+              let r = outputs-passed b n (length text) (length spans) (reply-is checkedOf o h) in
+              record { passed = counts .0; text = omega (arith, counts .1, r .0); spans = omega (arith, counts .2, r .1) }
 
-        pub decode-fits : 2 * n ≤ length spans → FitsAt m (length text) (length spans) origin
-        decode-fits room = record { passed = counts .0; text = omega (arith, counts .1); spans = omega (arith, counts .2) }
-
-        pub decode-written : 2 * n ≤ length spans → {next : Position} {text' spans' : List ℕ} → WritesAt m origin text spans next text' spans'
-            → DecodesStrings m text spans (reply.Strings b n) text' spans'
-        decode-written room w =
-            let l = counts .1 in
-            let k = counts .2 in
-            comes (ok (valuesOf m))
-            (ap (λ (y : Result (List (List ℕ))). intoStrings y (length text) (length spans)) (counts .0)
-            ∙ simp
-            (le-leb (length (joined (valuesOf m))) (length text) (omega arith), le-leb (2 * length (valuesOf m)) (length spans) (omega arith)))
-            (rw (l, k)) (w .writes .text-after ∙ put-front text (joined (valuesOf m)))
-            (w .writes .spans-after ∙ put-front spans (spansFrom 0 (valuesOf m)))
+          pub decode-written : {next : Position} {text' spans' : List ℕ} → WritesAt m origin text spans next text' spans'
+              → DecodesStrings m text spans (reply.Strings b n) text' spans'
+          decode-written w =
+              let l = counts .1 in
+              let k = counts .2 in
+              comes (ok (valuesOf m)) (fitted h) (rw (l, k)) (w .writes .text-after ∙ put-front text (joined (valuesOf m)))
+              (w .writes .spans-after ∙ put-front spans (spansFrom 0 (valuesOf m)))
 
 -- the values of the spans of a payload fit 64 bits
 pub decode-values : (payload : List ℕ) {x : StringsReply} {b n : ℕ} → x ≡ reply.Strings b n → stringsReplyOf x ≡ mapResult countsOf (decodePayload payload) → 2 * n < 2 ^ 64

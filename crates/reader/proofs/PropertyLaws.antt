@@ -9,19 +9,23 @@ use native.Mathlib.Omega.{arith}
 use borrow.Author.Tests.{le-leb, lt-leb, leb-true, eq-eqb, ne-eqb}
 use lib.Dec.{leb}
 use lib.ListN.{length, drop, set, length-append, length-drop, length-map}
+use Rattle.text.specs.Replies.{checkedOf, lengthReplyOf}
 use Rattle.text.specs.Result.{Result, ok, error, mapResult, overwritten}
 use Rattle.text.specs.declared.error.MatError.{MatError}
 use Rattle.text.specs.declared.error.MatError.the-variants.{NameIndexOutOfRange, UnknownFieldType, OutputTooShort}
+use Rattle.text.specs.declared.reply.Checked.{Checked}
+use Rattle.text.specs.declared.reply.Checked.the-variants as checked
+use Rattle.text.specs.declared.reply.LengthReply.{LengthReply}
+use Rattle.text.specs.declared.reply.LengthReply.the-variants as reply
+use Rattle.text.proofs.BufferLaws.{length-over}
 use Rattle.text.proofs.ResultLaws.{reply-is, seq-passed, seq-failed}
 use Rattle.text.proofs.TestLaws.{either}
 use Rattle.reader.specs.Objects.{checkBlock, objectRow, triplesFrom, triplesOf, checkTriple, checkTriples, recordRow, recordTriples, objectTriples, rowOf}
 use Rattle.reader.specs.ObjectStages.{firstBlocks, ToObject, objectReplyOf, IsBlock, Stands, ReadsObject, TriplesIn, triplesReplyOf, PassedTriples, Triples, RecordTriples, ReadsTriples}
 use Rattle.reader.specs.Opening.{opened, Opens}
 use Rattle.reader.specs.Queries.{intoOutput, objectRecord, checkObject}
-use Rattle.reader.specs.Replies.{parseReplyOf, checkedOf, propertiesReplyOf, WritesRows}
+use Rattle.reader.specs.Replies.{parseReplyOf, WritesRows}
 use Rattle.reader.specs.Wire.{tripleAt}
-use Rattle.reader.specs.declared.file_wrapper.Checked.{Checked}
-use Rattle.reader.specs.declared.file_wrapper.Checked.the-variants as checked
 use Rattle.reader.specs.declared.file_wrapper.FileWrapper.{FileWrapper}
 use Rattle.reader.specs.declared.file_wrapper.ParseReply.{ParseReply}
 use Rattle.reader.specs.declared.file_wrapper.ParseReply.the-variants as parse
@@ -29,8 +33,6 @@ use Rattle.reader.specs.declared.objects.Cursors.{Cursors}
 use Rattle.reader.specs.declared.objects.ObjectReply.{ObjectReply}
 use Rattle.reader.specs.declared.objects.ObjectReply.the-variants as object
 use Rattle.reader.specs.declared.objects.ObjectRow.{ObjectRow}
-use Rattle.reader.specs.declared.properties.PropertiesReply.{PropertiesReply}
-use Rattle.reader.specs.declared.properties.PropertiesReply.the-variants as properties
 use Rattle.reader.specs.declared.properties.TriplesReply.{TriplesReply}
 use Rattle.reader.specs.declared.properties.TriplesReply.the-variants as triples
 use Rattle.reader.specs.declared.records.ObjectRecord.{ObjectRecord}
@@ -227,7 +229,7 @@ module _ {b : List ℕ} {start n : ℕ} {rows₀ : List (List ℕ)} (t : Triples
 -- ---- the public call
 
 module _ (b : List ℕ) (id : ℕ) {x : TriplesReply} (read : ReadsTriples b id x) where
-  pub rows-refused : (rows : List (List ℕ)) {f : MatError} → x ≡ triples.Error f → WritesRows (objectTriples b id) rows (properties.Error f) rows
+  pub rows-refused : (rows : List (List ℕ)) {f : MatError} → x ≡ triples.Error f → WritesRows (objectTriples b id) rows (reply.Error f) rows
   rows-refused rows g = rw (reply-is (triplesReplyOf b) (read .reply) g) (record { reply = refl; buffer = refl })
 
   module _ {w : FileWrapper} {at n : ℕ} (g : x ≡ triples.Triples w at n) where
@@ -240,7 +242,7 @@ module _ (b : List ℕ) (id : ℕ) {x : TriplesReply} (read : ReadsTriples b id 
     come : objectTriples b id ≡ ok (triplesFrom b at n)
     come = reply-is (triplesReplyOf b) (read .reply) g
 
-    pub rows-short : (rows : List (List ℕ)) → length rows < n → WritesRows (objectTriples b id) rows (properties.Error (OutputTooShort n)) rows
+    pub rows-short : (rows : List (List ℕ)) → length rows < n → WritesRows (objectTriples b id) rows (reply.Error (OutputTooShort n)) rows
     rows-short rows h =
         let l = length-triples b at n in
         let t : leb (length (triplesFrom b at n)) (length rows) ≡ false = lt-leb (length (triplesFrom b at n)) (length rows) (omega arith) in
@@ -248,7 +250,7 @@ module _ (b : List ℕ) (id : ℕ) {x : TriplesReply} (read : ReadsTriples b id 
         rw come (record { reply = simp (t, k); buffer = simp t })
 
     pub rows-written : {rows rows' : List (List ℕ)} → n ≤ length rows → rows' ≡ rowsFrom b at n ++ drop n rows
-        → WritesRows (objectTriples b id) rows (properties.Rows n) rows'
+        → WritesRows (objectTriples b id) rows (reply.Length n) rows'
     rows-written {rows} {rows'} h e =
         let l = length-triples b at n in
         let t : leb (length (triplesFrom b at n)) (length rows) ≡ true = le-leb (length (triplesFrom b at n)) (length rows) (omega arith) in
@@ -261,10 +263,10 @@ rows-same (ok ts) rows rows' e =
     either (leb (length ts) (length rows))
     (λ t. let h : length ts ≤ length rows = leb-true (length ts) (length rows) t in
     let k : length (map rowOf ts) ≡ length ts = length-map ts rowOf in
-    ap length (simp t at e) ∙ omega (arith, length-append (map rowOf ts) (drop (length (map rowOf ts)) rows), length-drop (length (map rowOf ts)) rows))
+    ap length (simp t at e) ∙ length-over (map rowOf ts) rows (omega arith))
     (λ t. ap length (simp t at e))
 
-pub rows-in-output : {m : Result (List Triple)} {rows rows' : List (List ℕ)} {r : PropertiesReply} {n : ℕ} → r ≡ properties.Rows n → WritesRows m rows r rows' → n ≤ length rows'
+pub rows-in-output : {m : Result (List Triple)} {rows rows' : List (List ℕ)} {r : LengthReply} {n : ℕ} → r ≡ reply.Length n → WritesRows m rows r rows' → n ≤ length rows'
 rows-in-output {m} {rows} {rows'} {n = n} g w =
-    let e : ok n ≡ mapResult length (intoOutput m (length rows)) = ap propertiesReplyOf (sym g) ∙ w .reply in
+    let e : ok n ≡ mapResult length (intoOutput m (length rows)) = ap lengthReplyOf (sym g) ∙ w .reply in
     omega (arith, in-output m (length rows) n e, rows-same m rows rows' (w .buffer))

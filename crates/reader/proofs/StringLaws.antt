@@ -21,39 +21,16 @@ use Rattle.text.proofs.DecodeLaws as decoding
 use Rattle.text.proofs.ResultLaws.{Checks, checks-start, checks-turn, checks-stop, checks-last}
 use Rattle.text.proofs.ScalarLaws.{gap-below}
 use Rattle.text.proofs.TestLaws.{and-is, within-is}
-use Rattle.writer.specs.Spans.{isSome}
-use Rattle.reader.specs.Saveobj.{unitCount, unitsBefore, storedUnits, storedStrings, checkStrings, joined, spansFrom}
+use Rattle.writer.specs.Spans.{isSome, joined, spansFrom}
+use Rattle.writer.proofs.LayoutLaws.{joined-cons, length-spans}
+use Rattle.writer.proofs.SpanLaws.{counted-some, counted-none}
+use Rattle.reader.specs.Saveobj.{unitCount, unitsBefore, storedUnits, storedStrings, checkStrings}
 use Rattle.reader.specs.SaveobjStages.{countsOf, UnitsChecked, StringsFit, WritesStrings}
 use Rattle.reader.specs.Units.{unitAt, unitsIn, UnitsInside, UnitsFit}
 use Rattle.reader.proofs.LengthLaws.{units-next, units-most}
-use Rattle.writer.proofs.SpanLaws.{counted-some, counted-none}
 use Rattle.reader.proofs.UnitLaws.{length-units, reads-units, step-single, step-last, step-pair, step-unpaired, text-most}
 
--- ---- strings in a row
-
-pub joined-cons : (s : List ℕ) (ss : List (List ℕ)) → joined (s ∷ ss) ≡ s ++ joined ss
-unfolding flatMap
-joined-cons s ss = refl
-
-pub joined-append : (ss ts : List (List ℕ)) → joined (ss ++ ts) ≡ joined ss ++ joined ts
-unfolding flatMap
-joined-append [] ts = refl
-joined-append (s ∷ ss) ts = ap (λ (r : List ℕ). s ++ r) (joined-append ss ts) ∙ sym (append-assoc s (joined ss) (joined ts))
-
-pub length-joined : (ss ts : List (List ℕ)) → length (joined (ss ++ ts)) ≡ length (joined ss) + length (joined ts)
-length-joined ss ts = ap length (joined-append ss ts) ∙ length-append (joined ss) (joined ts)
-
-pub spans-append : (o : ℕ) (ss ts : List (List ℕ)) → spansFrom o (ss ++ ts) ≡ spansFrom o ss ++ spansFrom (o + length (joined ss)) ts
-unfolding spansFrom flatMap
-spans-append o [] ts = rw (add-zero o)
-spans-append o (s ∷ ss) ts =
-    let e : o + length s + length (joined ss) ≡ o + length (s ++ joined ss) = omega (arith, length-append s (joined ss)) in
-    ap (λ (r : List ℕ). o ∷ length s ∷ r) (spans-append (o + length s) ss ts ∙ rw e)
-
-pub length-spans : (o : ℕ) (ss : List (List ℕ)) → length (spansFrom o ss) ≡ 2 * length ss
-unfolding spansFrom
-length-spans o [] = refl
-length-spans o (s ∷ ss) = omega (arith, length-spans (o + length s) ss)
+-- ---- the stored strings
 
 module _ (payload : List ℕ) (base n : ℕ) where
   pub length-stored : (i k : ℕ) → length (storedStrings payload base n i k) ≡ k

@@ -9,13 +9,17 @@ use borrow.Author.Tests.{le-leb, eq-eqb, ne-eqb}
 use lib.Dec.{leb}
 use lib.ListN.{length, getD, take, drop, set}
 use Rattle.text.specs.Errors.{failureOf}
+use Rattle.text.specs.Replies.{checkedOf}
 use Rattle.text.specs.Result.{Result, ok, error, mapResult, overwritten, _>>_, _>>=_}
 use Rattle.text.specs.declared.error.MatError.{MatError}
 use Rattle.text.specs.declared.error.MatError.the-variants.{NotStringObject, OutputTooShort}
+use Rattle.text.specs.declared.reply.Checked.{Checked}
+use Rattle.text.specs.declared.reply.Checked.the-variants as checked
 use Rattle.text.proofs.BufferLaws.{put-front}
 use Rattle.text.proofs.ByteLaws.{stores}
 use Rattle.text.proofs.ResultLaws.{reply-is}
 use Rattle.text.proofs.TestLaws.{either}
+use Rattle.writer.specs.Spans.{spansFrom}
 use Rattle.reader.specs.CellStages.{IsDirectory, cellReplyOf, ReadsCell}
 use Rattle.reader.specs.Cells.{checkDirectory, cellAt}
 use Rattle.reader.specs.Decode.{anyName, chosenIndex, stringClass, propertyStrings, triplesStrings, objectStrings}
@@ -24,14 +28,12 @@ use Rattle.reader.specs.Objects.{triplesFrom, recordTriples, isNamed}
 use Rattle.reader.specs.ObjectStages.{PassedTriples, triplesReplyOf, Triples, RecordTriples, firstIndex}
 use Rattle.reader.specs.Opening.{opened, Opens}
 use Rattle.reader.specs.Queries.{checkObject, objectRecord}
-use Rattle.reader.specs.Replies.{parseReplyOf, checkedOf}
-use Rattle.reader.specs.Saveobj.{decodePayload, spansFrom, intoStrings}
+use Rattle.reader.specs.Replies.{parseReplyOf}
+use Rattle.reader.specs.Saveobj.{decodePayload, intoStrings}
 use Rattle.reader.specs.SaveobjStages.{countsOf, DecodesStrings}
 use Rattle.reader.specs.Wire.{tripleAt}
 use Rattle.reader.specs.declared.cells.CellReply.{CellReply}
 use Rattle.reader.specs.declared.cells.CellReply.the-variants as cell
-use Rattle.reader.specs.declared.file_wrapper.Checked.{Checked}
-use Rattle.reader.specs.declared.file_wrapper.Checked.the-variants as checked
 use Rattle.reader.specs.declared.file_wrapper.FileWrapper.{FileWrapper}
 use Rattle.reader.specs.declared.file_wrapper.ParseReply.{ParseReply}
 use Rattle.reader.specs.declared.file_wrapper.ParseReply.the-variants as parse
@@ -44,7 +46,7 @@ use Rattle.reader.specs.declared.saveobj.StringsReply.the-variants as re
 use Rattle.reader.specs.declared.string_objects.ChosenReply.{ChosenReply}
 use Rattle.reader.specs.declared.string_objects.ChosenReply.the-variants as chosen
 use Rattle.reader.proofs.FindLaws.{first-le, position-none, position-some, seq-bind}
-use Rattle.reader.proofs.PayloadLaws.{decode-refused, decode-short-spans, decode-written}
+use Rattle.reader.proofs.PayloadLaws.{outputs-spans, outputs-fit, decode-refused, decode-short, decode-written}
 use Rattle.reader.proofs.PropertyLaws.{length-triples}
 
 -- ---- the chosen property
@@ -171,12 +173,13 @@ oneEmpty = ok ([] ∷ [])
 module _ (spans : List ℕ) where
   pub empty-short : length spans < 2 → DecodesStrings oneEmpty [] spans (reply.Error (OutputTooShort 2)) [] spans
   unfolding flatMap
-  empty-short h = decode-short-spans oneEmpty [] spans (reply.Strings 0 1) refl refl (omega arith) (omega arith) (omega arith)
+  empty-short h =
+      decode-short oneEmpty [] spans (reply.Strings 0 1) refl refl (outputs-spans 0 1 0 (length spans) (omega arith) (omega arith) (omega arith)) refl
 
   pub empty-written : 2 ≤ length spans → DecodesStrings oneEmpty [] spans (reply.Strings 0 1) [] (set (set spans 0 0) 1 0)
   unfolding flatMap spansFrom
   empty-written h =
-      decode-written oneEmpty [] spans (reply.Strings 0 1) refl refl (omega arith) (omega arith) {next = record { byte = 0; string = 1 }}
+      decode-written oneEmpty [] spans (reply.Strings 0 1) refl refl (outputs-fit 0 1 0 (length spans) (omega arith) (omega arith)) refl {next = record { byte = 0; string = 1 }}
       (record {
         strings = refl;
         writes = record { end = refl; text-after = sym (put-front [] []); spans-after = stores (0 ∷ 0 ∷ []) spans 0 (omega arith) };

@@ -9,6 +9,7 @@ use lib.ListN.{length, getD}
 use Rattle.text.specs.Buffer.{same}
 use Rattle.text.specs.Errors.{failureOf}
 use Rattle.text.specs.Result.{Result, ok, error, mapResult, _>>_, valuesOf}
+use Rattle.text.specs.declared.reply.LengthReply.{LengthReply}
 use Rattle.reader.specs.Blocks.{IsCursor}
 use Rattle.reader.specs.Names.{Standing}
 use Rattle.reader.specs.Objects.{regionOf, blockIdOf, regionBlocks, blockStart, recordRow, objectsFrom, objectRows, triplesFrom, checkTriples, recordTriples, objectTriples}
@@ -26,7 +27,6 @@ use Rattle.reader.specs.declared.objects.ObjectList.{ObjectList}
 use Rattle.reader.specs.declared.objects.ObjectReply.{ObjectReply}
 use Rattle.reader.specs.declared.objects.ObjectReply.the-variants as object
 use Rattle.reader.specs.declared.objects.ObjectRow.{ObjectRow}
-use Rattle.reader.specs.declared.objects.ObjectsReply.{ObjectsReply}
 use Rattle.reader.specs.declared.properties.TriplesReply.{TriplesReply}
 use Rattle.reader.specs.declared.properties.TriplesReply.the-variants as triples
 use Rattle.reader.specs.declared.records.ObjectRecord.{ObjectRecord}
@@ -113,7 +113,7 @@ abbrev pub blankRows : List ObjectRow
 blankRows = noRow ∷ noRow ∷ noRow ∷ noRow ∷ noRow ∷ noRow ∷ noRow ∷ noRow ∷ []
 
 -- the listing by value: its reply and its rows
-abbrev pub objectList : ObjectsReply → List ObjectRow → ObjectList
+abbrev pub objectList : LengthReply → List ObjectRow → ObjectList
 objectList r rows = record { reply = r; rows = rows }
 
 -- how many objects a listing has, or the refusal

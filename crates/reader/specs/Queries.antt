@@ -45,17 +45,28 @@ shownClass b w e =
     cond (eqb (e .«namespace_idx») 0) (shown b w (e .«name_idx»)) (shown b w (e .«namespace_idx») ++ 0x2E ∷ shown b w (e .«name_idx»))
 
 -- "11 for the name, 11 for the namespace"
-unfoldable pub entryText : List ℕ → FileWrapper → ClassEntry → Result (List ℕ)
-entryText b w e = do
+unfoldable pub checkNames : FileWrapper → ClassEntry → Result (Unit {0})
+checkNames w e = do
   checkName w (e .«name_idx»)
   checkName w (e .«namespace_idx»)
+
+-- the text of a class entry: 11, 11
+unfoldable pub entryText : List ℕ → FileWrapper → ClassEntry → Result (List ℕ)
+entryText b w e = do
+  checkNames w e
   ok (shownClass b w e)
 
 -- 9: "Is the class id below the class entries? Place: class id."
+unfoldable pub entryOf : List ℕ → FileWrapper → ℕ → Result ClassEntry
+entryOf b w c = do
+  check 9 (ltb c (w .classes)) c
+  ok (classEntry b w c)
+
+-- a class of an opened blob: 9, 11, 11
 unfoldable pub classOf : List ℕ → FileWrapper → ℕ → Result (List ℕ)
 classOf b w c = do
-  check 9 (ltb c (w .classes)) c
-  entryText b w (classEntry b w c)
+  e ← entryOf b w c
+  entryText b w e
 
 -- a class by its id: 1–7, 9, 11, 11
 unfoldable pub classText : List ℕ → ℕ → Result (List ℕ)

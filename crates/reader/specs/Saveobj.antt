@@ -2,7 +2,7 @@
 -- Assumes nothing.
 use Prim.Native.Nat.{ℕ, zero, suc, _+_, _-_, _*_, _^_}
 use mathlib.Core.Bool.{Bool, cond, _&&_}
-use mathlib.Core.List.{List, [], _∷_, flatMap}
+use mathlib.Core.List.{List, [], _∷_}
 use lib.Dec.{leb, ltb, eqb}
 use lib.ListN.{length, getD, take, drop}
 use Rattle.text.specs.Buffer.{same}
@@ -12,7 +12,7 @@ use Rattle.text.specs.Unicode.{within}
 use Rattle.text.specs.Utf16.{textOf, theText}
 use Rattle.writer.specs.Array as writer
 use Rattle.writer.specs.Array.{Array}
-use Rattle.writer.specs.Spans.{isSome}
+use Rattle.writer.specs.Spans.{isSome, joined}
 use Rattle.reader.specs.Units.{unitsIn}
 
 -- "A payload is 1, number of dimensions, dimensions, lengths in code units, then units"
@@ -94,19 +94,15 @@ decodedArray payload = record { dims = storedDims payload; strings = valuesOf (d
 unfoldable pub isCanonicalPayload : List ℕ → Bool
 isCanonicalPayload payload = isOk (decodePayload payload) && same (writer.payload (decodedArray payload)) payload
 
--- "UTF-8 text, end to end"
-abbrev pub joined : List (List ℕ) → List ℕ
-joined strings = flatMap (λ s. s) strings
+-- 34 for the bytes of strings, then for the values of their spans
+abbrev pub checkOutputs : ℕ → ℕ → ℕ → ℕ → Result (Unit {0})
+checkOutputs bytes strings textRoom spanRoom = do
+  checkOutput bytes textRoom
+  checkOutput (2 * strings) spanRoom
 
--- the spans of strings end to end from byte o on
-unfoldable pub spansFrom : ℕ → List (List ℕ) → List ℕ
-spansFrom o [] = []
-spansFrom o (s ∷ ss) = o ∷ length s ∷ spansFrom (o + length s) ss
-
--- strings for outputs of these lengths: 34 for the text's bytes, then for the values of the spans
+-- strings for outputs of these lengths
 abbrev pub intoStrings : Result (List (List ℕ)) → ℕ → ℕ → Result (List (List ℕ))
 intoStrings m textRoom spanRoom = do
   strings ← m
-  checkOutput (length (joined strings)) textRoom
-  checkOutput (2 * length strings) spanRoom
+  checkOutputs (length (joined strings)) (length strings) textRoom spanRoom
   ok strings

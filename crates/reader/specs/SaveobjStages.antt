@@ -9,6 +9,7 @@ use Rattle.text.specs.Buffer.{put}
 use Rattle.text.specs.Errors.{failureOf}
 use Rattle.text.specs.Result.{Result, ok, error, mapResult, valuesOf, overwritten, _>>_, _>>=_}
 use Rattle.text.specs.Utf16.{textOf, theText}
+use Rattle.writer.specs.Spans.{joined, spansFrom}
 use Rattle.reader.specs.declared.saveobj.NumberReply.{NumberReply}
 use Rattle.reader.specs.declared.saveobj.NumberReply.the-variants as number
 use Rattle.reader.specs.declared.saveobj.HeaderReply.{HeaderReply}
@@ -18,7 +19,7 @@ use Rattle.reader.specs.declared.saveobj.LayoutReply.the-variants as lay
 use Rattle.reader.specs.declared.saveobj.StringsReply.{StringsReply}
 use Rattle.reader.specs.declared.saveobj.StringsReply.the-variants as strings
 use Rattle.reader.specs.declared.saveobj.Position.{Position}
-use Rattle.reader.specs.Saveobj.{Header, unitsBefore, storedUnits, storedStrings, checkHeader, checkLengths, joined, spansFrom, intoStrings}
+use Rattle.reader.specs.Saveobj.{Header, unitsBefore, storedUnits, storedStrings, checkHeader, checkLengths, intoStrings}
 
 -- ---- replies
 

@@ -1,14 +1,14 @@
 // The cell store: check 13 for the directory of its cells, and checks 14 and 15 for one of them.
-use crate::file_wrapper::Checked;
 use text::convert::to_usize;
 use text::error::MatError;
+use text::reply::Checked;
 ghost use mathlib.Core.Path.{_≡_};
 ghost use Prim.Native.Nat.{_*_, _≤_};
 ghost use lib.ListN.{length};
+ghost use Rattle.text.specs.Replies.{checkedOf};
 ghost use Rattle.text.specs.Result.{checkEach};
 ghost use Rattle.reader.specs.Cells.{liesIn, isCell, checkDirectory, cellAt, cellOf};
 ghost use Rattle.reader.specs.CellStages.{IsDirectory, ReadsCell};
-ghost use Rattle.reader.specs.Replies.{checkedOf};
 
 // The most values of a directory.
 const MAX_DIRECTORY: usize = 699044;

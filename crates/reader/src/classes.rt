@@ -1,5 +1,4 @@
 // The classes of a metadata blob.
-use crate::file_wrapper::Checked;
 use crate::file_wrapper::FileWrapper;
 use crate::file_wrapper::ParseReply;
 use crate::names::NameReply;
@@ -10,6 +9,7 @@ use crate::objects::check_object;
 use crate::records::ClassEntry;
 use crate::records::ObjectRecord;
 use text::error::MatError;
+use text::reply::Checked;
 use text::utf8::LossyLength;
 use text::utf8::is_lossy;
 use text::utf8::lossy_length;
@@ -19,13 +19,14 @@ ghost use mathlib.Core.List.{_∷_, _++_};
 ghost use Prim.Native.Nat.{_≤_, _+_};
 ghost use lib.ListN.{length};
 ghost use Rattle.text.specs.Buffer.{Puts};
+ghost use Rattle.text.specs.Replies.{checkedOf};
 ghost use Rattle.text.specs.Result.{ok};
 ghost use Rattle.text.specs.Utf8.{lossy};
 ghost use Rattle.reader.specs.Decode.{checkString, stringClass};
 ghost use Rattle.reader.specs.Names.{pieceBytes, InBlob, IsLength, BothInBlob};
 ghost use Rattle.reader.specs.Opening.{Opens};
-ghost use Rattle.reader.specs.Queries.{entryText, classOf, classText, objectClassText};
-ghost use Rattle.reader.specs.Replies.{checkedOf, WritesText};
+ghost use Rattle.reader.specs.Queries.{checkNames, entryText, entryOf, classOf, classText, objectClassText};
+ghost use Rattle.reader.specs.Replies.{classReplyOf, WritesText};
 
 // The repaired length of a piece.
 fn piece_length(blob: &[u8], piece: Piece) -> usize
@@ -66,16 +67,44 @@ fn write_joined(blob: &[u8], namespace: Piece, name: Piece, text: &mut [u8]) -> 
     NameReply::Text(need)
 }
 
+// The entry of a class, or the refusal.
+enum ClassReply {
+    Entry(ClassEntry),
+    Error(MatError),
+}
+
+// Check 9, and the entry.
+fn read_class(blob: &[u8], w: FileWrapper, class_id: u32) -> ClassReply
+    requires { ⌜ Opens (now blob) w ⌝ }
+    ensures { λ r. ⌜ classReplyOf r ≡ entryOf (now (blob .entry)) w «class_id» ⌝ }
+{
+    if w.classes <= class_id as usize {
+        return ClassReply::Error(MatError::ClassIdOutOfRange(class_id as u64));
+    }
+    let entry = ClassEntry::read(blob, w.offsets.o0 + ClassEntry::SIZE * class_id as usize);
+    ClassReply::Entry(entry)
+}
+
+// Check 11 for the name and the namespace of a class.
+fn check_names(w: FileWrapper, entry: ClassEntry) -> Checked
+    ensures { λ r. ⌜ checkedOf r ≡ checkNames w entry ⌝ }
+{
+    if w.names < entry.name_idx {
+        return Checked::Failed(MatError::NameIndexOutOfRange(entry.name_idx as u64));
+    }
+    if w.names < entry.namespace_idx {
+        return Checked::Failed(MatError::NameIndexOutOfRange(entry.namespace_idx as u64));
+    }
+    Checked::Passed
+}
+
 // The text of a class entry: check 11 for its name and its namespace.
 fn write_entry(blob: &[u8], w: FileWrapper, entry: ClassEntry, text: &mut [u8]) -> NameReply
     requires { ⌜ Opens (now blob) w ⌝ }
     ensures { λ r. ⌜ WritesText (entryText (now (blob .entry)) w entry) (now (text .entry)) r (now (text .exit)) ⌝ }
 {
-    if w.names < entry.name_idx {
-        return NameReply::Error(MatError::NameIndexOutOfRange(entry.name_idx as u64));
-    }
-    if w.names < entry.namespace_idx {
-        return NameReply::Error(MatError::NameIndexOutOfRange(entry.namespace_idx as u64));
+    if let Checked::Failed(e) = check_names(w, entry) {
+        return NameReply::Error(e);
     }
     let name = name_piece(blob, w.offsets.o0, entry.name_idx as usize);
     if entry.namespace_idx == 0 {
@@ -90,11 +119,10 @@ fn write_class(blob: &[u8], w: FileWrapper, class_id: u32, text: &mut [u8]) -> N
     requires { ⌜ Opens (now blob) w ⌝ }
     ensures { λ r. ⌜ WritesText (classOf (now (blob .entry)) w «class_id») (now (text .entry)) r (now (text .exit)) ⌝ }
 {
-    if w.classes <= class_id as usize {
-        return NameReply::Error(MatError::ClassIdOutOfRange(class_id as u64));
+    match read_class(blob, w, class_id) {
+        ClassReply::Entry(entry) => write_entry(blob, w, entry, text),
+        ClassReply::Error(e) => NameReply::Error(e),
     }
-    let entry = ClassEntry::read(blob, w.offsets.o0 + ClassEntry::SIZE * class_id as usize);
-    write_entry(blob, w, entry, text)
 }
 
 // Whether a class entry is string: check 11 for its name and its namespace, and 16. With a namespace it shows a full stop, which string
@@ -103,11 +131,8 @@ fn check_string_entry(blob: &[u8], w: FileWrapper, entry: ClassEntry) -> Checked
     requires { ⌜ Opens (now blob) w ⌝ }
     ensures { λ r. ⌜ checkedOf r ≡ checkString (entryText (now (blob .entry)) w entry) ⌝ }
 {
-    if w.names < entry.name_idx {
-        return Checked::Failed(MatError::NameIndexOutOfRange(entry.name_idx as u64));
-    }
-    if w.names < entry.namespace_idx {
-        return Checked::Failed(MatError::NameIndexOutOfRange(entry.namespace_idx as u64));
+    if let Checked::Failed(e) = check_names(w, entry) {
+        return Checked::Failed(e);
     }
     if entry.namespace_idx != 0 {
         return Checked::Failed(MatError::NotStringObject(0));
@@ -126,11 +151,10 @@ pub(crate) fn check_string_class(blob: &[u8], w: FileWrapper, class_id: u32) -> 
     requires { ⌜ Opens (now blob) w ⌝ }
     ensures { λ r. ⌜ checkedOf r ≡ stringClass (now (blob .entry)) w «class_id» ⌝ }
 {
-    if w.classes <= class_id as usize {
-        return Checked::Failed(MatError::ClassIdOutOfRange(class_id as u64));
+    match read_class(blob, w, class_id) {
+        ClassReply::Entry(entry) => check_string_entry(blob, w, entry),
+        ClassReply::Error(e) => Checked::Failed(e),
     }
-    let entry = ClassEntry::read(blob, w.offsets.o0 + ClassEntry::SIZE * class_id as usize);
-    check_string_entry(blob, w, entry)
 }
 
 // The class of an id, as it is shown, at the start of text.

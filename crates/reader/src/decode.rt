@@ -2,16 +2,16 @@
 use crate::cells::CellReply;
 use crate::cells::cell_of;
 use crate::cells::check_directory;
-use crate::file_wrapper::Checked;
 use crate::file_wrapper::FileWrapper;
 use crate::file_wrapper::ParseReply;
 use crate::opaque::OpaqueReply;
 use crate::opaque::parse_opaque_metadata;
 use crate::saveobj::Position;
 use crate::saveobj::StringsReply;
+use crate::saveobj::check_outputs;
 use crate::saveobj::measure_payload;
 use crate::saveobj::put_payload;
-use text::error::MatError;
+use text::reply::Checked;
 ghost use mathlib.Core.Path.{_≡_};
 ghost use lib.ListN.{length};
 ghost use Rattle.text.specs.Result.{mapResult};
@@ -120,15 +120,14 @@ fn write_ids(
     spans: &mut [u64],
 ) -> StringsReply
     requires { ⌜ IdsThere (now directory) (now kinds) (now words) (now metadata) first n ⌝ }
-    ensures { λ r. ⌜ DecodesStrings (idsStrings (now (directory .entry)) (now (kinds .entry)) (now (words .entry)) (now (metadata .entry)) first n) (now (text .entry)) (now (spans .entry)) r (now (text .exit)) (now (spans .exit)) ⌝ }
+    ensures { λ r. ⌜ (
+        let m = idsStrings (now (directory .entry)) (now (kinds .entry)) (now (words .entry)) (now (metadata .entry)) first n in
+        DecodesStrings m (now (text .entry)) (now (spans .entry)) r (now (text .exit)) (now (spans .exit))) ⌝ }
 {
     match measure_ids(directory, kinds, words, metadata, first, n) {
         StringsReply::Strings { bytes, strings } => {
-            if text.len() < bytes {
-                return StringsReply::Error(MatError::OutputTooShort(bytes as u64));
-            }
-            if spans.len() < 2 * strings {
-                return StringsReply::Error(MatError::OutputTooShort((2 * strings) as u64));
+            if let Checked::Failed(e) = check_outputs(bytes, strings, text.len(), spans.len()) {
+                return StringsReply::Error(e);
             }
             put_ids(directory, kinds, words, metadata, first, n, text, spans);
             StringsReply::Strings { bytes, strings }

@@ -7,12 +7,14 @@ use crate::records::ObjectRecord;
 use crate::records::Triple;
 use crate::records::read_u32;
 use text::error::MatError;
+use text::reply::Checked;
 ghost use mathlib.Core.Path.{_≡_};
 ghost use Prim.Native.Nat.{_≤_, _<_};
 ghost use lib.ListN.{length};
+ghost use Rattle.text.specs.Replies.{checkedOf};
 ghost use Rattle.text.specs.Result.{checkEach};
 ghost use Rattle.reader.specs.Opening.{offset, offsets, isWithin, isOrdered, Ordered, regions, emptyWrapper, opened};
-ghost use Rattle.reader.specs.Replies.{parseReplyOf, checkedOf};
+ghost use Rattle.reader.specs.Replies.{parseReplyOf};
 
 // The most bytes of a blob, and the length of its header.
 pub const MAX_BLOB: usize = 16777216;
@@ -44,12 +46,6 @@ pub struct FileWrapper {
 pub enum ParseReply {
     Parsed(FileWrapper),
     Error(MatError),
-}
-
-// Whether a run of checks holds.
-pub enum Checked {
-    Passed,
-    Failed(MatError),
 }
 
 fn read_offset(blob: &[u8], k: usize) -> usize

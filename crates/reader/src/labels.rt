@@ -3,7 +3,7 @@ use crate::file_wrapper::FileWrapper;
 use crate::file_wrapper::ParseReply;
 use crate::names::piece_start;
 use text::error::MatError;
-use text::utf8::TerminatedLength;
+use text::utf8::TextLength;
 use text::utf8::terminated_length;
 ghost use mathlib.Core.Path.{_≡_};
 ghost use lib.ListN.{length};
@@ -56,7 +56,7 @@ pub fn label_source(blob: &[u8], placeholder: &[u8], index: u32) -> LabelReply
             let heap_end = w.offsets.o0;
             let start = piece_start(blob, heap_end, index as usize);
             match terminated_length(&blob[start..heap_end]) {
-                TerminatedLength::Length(length) => {
+                TextLength::Length(length) => {
                     if length == 0 {
                         return unnamed(placeholder);
                     }
@@ -66,9 +66,7 @@ pub fn label_source(blob: &[u8], placeholder: &[u8], index: u32) -> LabelReply
                         length,
                     })
                 }
-                TerminatedLength::IllFormed => LabelReply::Error(MatError::NameIllFormed(
-                    index as u64,
-                )),
+                TextLength::IllFormed => LabelReply::Error(MatError::NameIllFormed(index as u64)),
             }
         }
         ParseReply::Error(e) => LabelReply::Error(e),

@@ -1,21 +1,23 @@
 // The objects of a metadata blob.
 use crate::blocks::Cursor;
 use crate::blocks::seek;
-use crate::file_wrapper::Checked;
 use crate::file_wrapper::FileWrapper;
 use crate::file_wrapper::ParseReply;
 use crate::records::ObjectRecord;
 use crate::records::Triple;
 use crate::records::read_u32;
 use text::error::MatError;
+use text::reply::Checked;
+use text::reply::LengthReply;
 ghost use mathlib.Core.Path.{_≡_};
 ghost use Prim.Native.Nat.{_-_};
+ghost use Rattle.text.specs.Replies.{checkedOf, lengthReplyOf};
 ghost use Rattle.reader.specs.Blocks.{cursorAt};
 ghost use Rattle.reader.specs.Objects.{regionStart, regionBlocks, checkBlock};
 ghost use Rattle.reader.specs.Opening.{Opens};
 ghost use Rattle.reader.specs.Queries.{checkObject, objectRecord};
 ghost use Rattle.reader.specs.ObjectStages.{blockOf, cursorOf, withCursor, firstBlocks, rowFrom, ToBlock, ToObject, ReadsObject, checkObjects, noRow, blankRows, objectList, countOf, lastRow, listingReplyOf, Lists, ToNext, NextObject};
-ghost use Rattle.reader.specs.Replies.{checkedOf, objectsReplyOf, WritesObjects};
+ghost use Rattle.reader.specs.Replies.{WritesObjects};
 
 // An object: its class, the region of its property block (0 saved, 1 normal), the block's id there, and how many properties it has.
 #[repr(C)]
@@ -338,14 +340,8 @@ fn count_of(listing: Listing) -> usize
     }
 }
 
-// How many objects there are, or the refusal.
-pub enum ObjectsReply {
-    Objects(usize),
-    Error(MatError),
-}
-
-fn reply_of(listing: Listing) -> ObjectsReply
-    ensures { λ r. ⌜ objectsReplyOf r ≡ listingReplyOf listing ⌝ }
+fn reply_of(listing: Listing) -> LengthReply
+    ensures { λ r. ⌜ lengthReplyOf r ≡ listingReplyOf listing ⌝ }
 {
     match listing {
         Listing::Objects {
@@ -353,13 +349,13 @@ fn reply_of(listing: Listing) -> ObjectsReply
             count,
             cursors: _,
             row: _,
-        } => ObjectsReply::Objects(count),
-        Listing::Refused(e) => ObjectsReply::Error(e),
+        } => LengthReply::Length(count),
+        Listing::Refused(e) => LengthReply::Error(e),
     }
 }
 
 // The objects of a blob, a row for each, at the start of rows.
-pub fn list_objects(blob: &[u8], rows: &mut [ObjectRow]) -> ObjectsReply
+pub fn list_objects(blob: &[u8], rows: &mut [ObjectRow]) -> LengthReply
     ensures { λ r. ⌜ WritesObjects (now (blob .entry)) (now (rows .entry)) r (now (rows .exit)) ⌝ }
 {
     let mut listing = start_listing(blob, rows.len());
@@ -375,7 +371,7 @@ pub fn list_objects(blob: &[u8], rows: &mut [ObjectRow]) -> ObjectsReply
 
 // A listing of eight rows, and its reply.
 pub struct ObjectList {
-    pub reply: ObjectsReply,
+    pub reply: LengthReply,
     pub rows: [ObjectRow; 8],
 }
 
@@ -385,7 +381,7 @@ fn blank_rows() -> [ObjectRow; 8]
     [no_row(); 8]
 }
 
-fn object_list(reply: ObjectsReply, rows: [ObjectRow; 8]) -> ObjectList
+fn object_list(reply: LengthReply, rows: [ObjectRow; 8]) -> ObjectList
     ensures { λ r. ⌜ r ≡ objectList reply rows ⌝ }
 {
     ObjectList { reply, rows }

@@ -1,5 +1,4 @@
 // The properties of an object.
-use crate::file_wrapper::Checked;
 use crate::file_wrapper::FileWrapper;
 use crate::file_wrapper::ParseReply;
 use crate::objects::ObjectReply;
@@ -8,15 +7,18 @@ use crate::objects::first_blocks;
 use crate::objects::read_object;
 use crate::records::Triple;
 use text::error::MatError;
+use text::reply::Checked;
+use text::reply::LengthReply;
 ghost use mathlib.Core.Path.{_≡_};
 ghost use mathlib.Core.List.{_++_, map};
 ghost use Prim.Native.Nat.{_≤_, _<_};
 ghost use lib.ListN.{length, drop};
+ghost use Rattle.text.specs.Replies.{checkedOf};
 ghost use Rattle.reader.specs.Objects.{triplesFrom, checkTriple, checkTriples, rowOf, objectTriples};
 ghost use Rattle.reader.specs.ObjectStages.{TriplesIn, RecordTriples, ReadsTriples};
 ghost use Rattle.reader.specs.Opening.{Opens};
 ghost use Rattle.reader.specs.Queries.{objectRecord};
-ghost use Rattle.reader.specs.Replies.{checkedOf, WritesRows};
+ghost use Rattle.reader.specs.Replies.{WritesRows};
 
 // A property as three numbers: its name index, its type (0 name, 1 heap, 2 inline) and its value.
 pub const ROW_WIDTH: usize = 3;
@@ -125,24 +127,18 @@ fn put_rows(blob: &[u8], start: usize, count: usize, rows: &mut [[u32; ROW_WIDTH
     }
 }
 
-// How many rows were written, or the refusal.
-pub enum PropertiesReply {
-    Rows(usize),
-    Error(MatError),
-}
-
 // The properties of an object, a row for each, at the start of rows.
-pub fn properties(blob: &[u8], object_id: u32, rows: &mut [[u32; ROW_WIDTH]]) -> PropertiesReply
+pub fn properties(blob: &[u8], object_id: u32, rows: &mut [[u32; ROW_WIDTH]]) -> LengthReply
     ensures { λ r. ⌜ WritesRows (objectTriples (now (blob .entry)) «object_id») (now (rows .entry)) r (now (rows .exit)) ⌝ }
 {
     match object_triples(blob, object_id) {
         TriplesReply::Triples { w: _, at, count } => {
             if rows.len() < count {
-                return PropertiesReply::Error(MatError::OutputTooShort(count as u64));
+                return LengthReply::Error(MatError::OutputTooShort(count as u64));
             }
             put_rows(blob, at, count, rows);
-            PropertiesReply::Rows(count)
+            LengthReply::Length(count)
         }
-        TriplesReply::Error(e) => PropertiesReply::Error(e),
+        TriplesReply::Error(e) => LengthReply::Error(e),
     }
 }

@@ -8,13 +8,15 @@ use text::convert::Product;
 use text::convert::checked_product;
 use text::convert::to_usize;
 use text::error::MatError;
+use text::reply::Checked;
 use writer::string_object::MATLAB_STRING_SAVEOBJ_VERSION;
 use writer::string_object::MAX_PAYLOAD_WORDS;
 ghost use mathlib.Core.Path.{_≡_};
-ghost use Prim.Native.Nat.{_+_, _≤_, _<_};
+ghost use Prim.Native.Nat.{_+_, _*_, _^_, _≤_, _<_};
 ghost use lib.ListN.{length};
+ghost use Rattle.text.specs.Replies.{checkedOf};
 ghost use Rattle.text.specs.Result.{mapResult};
-ghost use Rattle.reader.specs.Saveobj.{unitCount, storedStrings, checkHeader, checkSum, checkStrings, decodePayload, isCanonicalPayload};
+ghost use Rattle.reader.specs.Saveobj.{unitCount, storedStrings, checkHeader, checkSum, checkStrings, decodePayload, isCanonicalPayload, checkOutputs};
 ghost use Rattle.reader.specs.SaveobjStages.{numberOf, headerOf, layoutOf, checkLayout, countsOf, stringsReplyOf, UnitsChecked, StringsFit, WritesStrings, FitsAt, WritesAt, DecodesStrings};
 
 // The length that marks a missing string.
@@ -242,17 +244,30 @@ pub(crate) fn put_payload(
     }
 }
 
+// 34 for strings that were measured: their text, then their spans.
+pub(crate) fn check_outputs(bytes: usize, strings: usize, text: usize, spans: usize) -> Checked
+    requires { ⌜ 2 * strings < 2 ^ 64 ⌝ }
+    ensures { λ r. ⌜ checkedOf r ≡ checkOutputs bytes strings text spans ⌝ }
+{
+    if text < bytes {
+        return Checked::Failed(MatError::OutputTooShort(bytes as u64));
+    }
+    if spans < 2 * strings {
+        return Checked::Failed(MatError::OutputTooShort((2 * strings) as u64));
+    }
+    Checked::Passed
+}
+
 // Writes the strings of a saveobj payload to the start of text, in UTF-8 and end to end, and their spans to the start of spans.
 pub fn decode_string_saveobj(payload: &[u64], text: &mut [u8], spans: &mut [u64]) -> StringsReply
-    ensures { λ r. ⌜ DecodesStrings (decodePayload (now (payload .entry))) (now (text .entry)) (now (spans .entry)) r (now (text .exit)) (now (spans .exit)) ⌝ }
+    ensures { λ r. ⌜ (
+        let m = decodePayload (now (payload .entry)) in
+        DecodesStrings m (now (text .entry)) (now (spans .entry)) r (now (text .exit)) (now (spans .exit))) ⌝ }
 {
     match measure_payload(payload) {
         StringsReply::Strings { bytes, strings } => {
-            if text.len() < bytes {
-                return StringsReply::Error(MatError::OutputTooShort(bytes as u64));
-            }
-            if spans.len() < 2 * strings {
-                return StringsReply::Error(MatError::OutputTooShort((2 * strings) as u64));
+            if let Checked::Failed(e) = check_outputs(bytes, strings, text.len(), spans.len()) {
+                return StringsReply::Error(e);
             }
             put_payload(payload, text, spans, Position { byte: 0, string: 0 });
             StringsReply::Strings { bytes, strings }

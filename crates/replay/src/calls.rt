@@ -12,19 +12,16 @@ use reader::file_wrapper::ParseReply;
 use reader::find::FindReply;
 use reader::find::find_property;
 use reader::names::NameReply;
-use reader::objects::ObjectsReply;
 use reader::objects::list_eight;
 use reader::opaque::OpaqueReply;
 use reader::opaque::parse_opaque_metadata;
-use reader::properties::PropertiesReply;
 use reader::properties::properties;
 use reader::saveobj::StringsReply;
 use reader::saveobj::decode_string_saveobj;
 use reader::string_objects::decode_string_object;
 use text::error::MatError;
+use text::reply::LengthReply;
 use text::utf8::LossyReply;
-use text::utf16::TextReply;
-use writer::string_object::LengthReply;
 use writer::string_object::build_string_filewrapper_metadata;
 use writer::string_object::encode_string_saveobj_payload;
 
@@ -64,8 +61,8 @@ pub fn utf16(line: &[u8]) -> Verdict {
         fields::first_units(units, count),
         &mut text[0..length],
     ) {
-        TextReply::Text(bytes) => render::text(text, bytes, answer),
-        TextReply::Error(error) => render::refusal(error, render::is_untouched(text, 0), answer),
+        LengthReply::Length(bytes) => render::text(text, bytes, answer),
+        LengthReply::Error(error) => render::refusal(error, render::is_untouched(text, 0), answer),
     };
     compare(line, 3, answer, n)
 }
@@ -269,8 +266,8 @@ pub fn props(line: &[u8]) -> Verdict {
         id as u32,
         &mut rows[0..length],
     ) {
-        PropertiesReply::Rows(count) => render::rows(rows, count, answer),
-        PropertiesReply::Error(error) => {
+        LengthReply::Length(count) => render::rows(rows, count, answer),
+        LengthReply::Error(error) => {
             render::refusal(error, render::are_rows_untouched(rows, 0), answer)
         }
     };
@@ -467,8 +464,8 @@ pub fn objects(line: &[u8]) -> Verdict {
     let reply = list.reply;
     let rows = list.rows;
     let n = match reply {
-        ObjectsReply::Objects(count) => render::objects(rows, count, answer),
-        ObjectsReply::Error(error) => {
+        LengthReply::Length(count) => render::objects(rows, count, answer),
+        LengthReply::Error(error) => {
             render::refusal(error, render::are_objects_untouched(rows, 0), answer)
         }
     };

@@ -1,5 +1,5 @@
 // The fields of a line, with spaces between them, and the numbers in them.
-use writer::string_object::LengthReply;
+use text::reply::LengthReply;
 use writer::string_object::build_string_filewrapper_metadata;
 ghost use mathlib.Core.Path.{_≡_};
 ghost use Prim.Native.Nat.{_<_, _≤_};

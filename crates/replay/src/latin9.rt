@@ -6,7 +6,7 @@ use crate::fields::Number;
 use crate::render;
 use text::latin9::export_latin9;
 use text::latin9::import_latin9;
-use text::utf16::TextReply;
+use text::reply::LengthReply;
 
 // The two calls.
 enum Way {
@@ -14,7 +14,7 @@ enum Way {
     Import,
 }
 
-fn convert(way: Way, source: &[u8], out: &mut [u8]) -> TextReply {
+fn convert(way: Way, source: &[u8], out: &mut [u8]) -> LengthReply {
     match way {
         Way::Export => export_latin9(source, out),
         Way::Import => import_latin9(source, out),
@@ -36,8 +36,8 @@ fn converted(line: &[u8], way: Way) -> Verdict {
         return Verdict::Unreadable;
     }
     let n = match convert(way, fields::part(source, 0, count), &mut out[0..length]) {
-        TextReply::Text(bytes) => render::text(out, bytes, answer),
-        TextReply::Error(error) => render::refusal(error, render::is_untouched(out, 0), answer),
+        LengthReply::Length(bytes) => render::text(out, bytes, answer),
+        LengthReply::Error(error) => render::refusal(error, render::is_untouched(out, 0), answer),
     };
     compare(line, 3, answer, n)
 }
@@ -83,8 +83,8 @@ pub fn importneed(line: &[u8]) -> Verdict {
         return Verdict::Unreadable;
     };
     let n = match import_latin9(fields::part(source, 0, count), &mut text[0..length]) {
-        TextReply::Text(_) => render::accepted(answer),
-        TextReply::Error(error) => render::refusal(error, render::is_untouched(text, 0), answer),
+        LengthReply::Length(_) => render::accepted(answer),
+        LengthReply::Error(error) => render::refusal(error, render::is_untouched(text, 0), answer),
     };
     compare(line, 5, answer, n)
 }

@@ -2,26 +2,27 @@
 -- Assumes nothing.
 use Prim.Native.Nat.{ℕ, zero, suc, _+_, _-_, _*_, _^_, _≤_, _<_}
 use mathlib.Core.Path.{_≡_, refl, sym, ap, ap₂, _∙_}
-use mathlib.Core.List.{List, [], _∷_, _++_, append-assoc, append-nil, flatMap}
+use mathlib.Core.List.{List, [], _∷_, _++_, append-assoc, append-nil, map, map-append, flatMap}
 use native.Mathlib.Nat.{add-zero}
 use native.Mathlib.Numerals.{add-one}
 use native.Mathlib.Omega.{arith}
 use borrow.Author.Tests.{le-leb}
 use borrow.Rule.Slice.PartMut.{midOf, putMid}
-use lib.ListN.{length, take, drop, set, replicate, length-append, length-take, length-drop, length-replicate}
+use lib.ListN.{length, take, drop, set, replicate, length-append, length-drop, length-replicate}
 use lib.Seq.{drop-drop, drop-length, take-all}
-use Rattle.text.specs.Buffer.{put}
+use Rattle.text.specs.Buffer.{put, over}
 use Rattle.text.specs.Result.{Result, ok, error, checkOutput, overwritten}
-use Rattle.text.proofs.BufferLaws.{put-none, put-one}
+use Rattle.text.specs.declared.reply.LengthReply.{LengthReply}
+use Rattle.text.proofs.BufferLaws.{put-none, put-one, put-over}
 use Rattle.writer.specs.Array.{Array, payload, payloads, payloadSpans, arrayOf, encodePayload}
 use Rattle.writer.specs.FileWrapper.{fileWrapper, buildMetadata}
 use Rattle.writer.specs.Replies.{EncodesPayload, BuildsMetadata}
+use Rattle.writer.specs.Spans.{spansFrom}
 use Rattle.writer.specs.Stages.{arrayIn}
-use Rattle.writer.specs.declared.string_object.LengthReply.{LengthReply}
 use Rattle.writer.proofs.FileWrapperLaws.{length-file-wrapper, builds}
-use Rattle.writer.proofs.LayoutLaws.{length-payload-spans}
+use Rattle.writer.proofs.LayoutLaws.{spans-append}
 use Rattle.store.specs.Store.{Store, storeOf, serialize, counted, storedArrays}
-use Rattle.store.specs.Edits.{appended, over, laid, storeAfter}
+use Rattle.store.specs.Edits.{appended, laid, storeAfter}
 use Rattle.store.specs.Replies.{Edits}
 use Rattle.store.specs.Stages.{ArrayFits, EntryFits, PutsEntry, Appendable}
 use Rattle.store.specs.declared.edits.EditReply.the-variants.{Done}
@@ -65,11 +66,8 @@ entry-put n offset len d ks f = record {
 -- ---- the parts of the serialization with one array more
 
 spans-last : (o : ℕ) (xs : List Array) (a : Array) → payloadSpans o (xs ++ a ∷ []) ≡ payloadSpans o xs ++ (o + length (payloads xs)) ∷ length (payload a) ∷ []
-unfolding payloadSpans payloads flatMap
-spans-last o [] a = rw add-zero
-spans-last o (x ∷ xs) a =
-    let e : o + length (payload x ++ payloads xs) ≡ o + length (payload x) + length (payloads xs) = omega (arith, length-append (payload x) (payloads xs)) in
-    rw e (ap (λ (l : List ℕ). o ∷ length (payload x) ∷ l) (spans-last (o + length (payload x)) xs a))
+unfolding spansFrom payloads
+spans-last o xs a = ap (spansFrom o) (map-append payload xs (a ∷ [])) ∙ spans-append o (map payload xs) (payload a ∷ [])
 
 payloads-last : (xs : List Array) (a : Array) → payloads (xs ++ a ∷ []) ≡ payloads xs ++ payload a
 unfolding payloads flatMap
@@ -82,13 +80,6 @@ replicate-last n = rw add-one (by-count n)
     by-count : (n : ℕ) → replicate {A = ℕ} (suc n) 0 ≡ replicate n 0 ++ 0 ∷ []
     by-count zero = refl
     by-count (suc n) = ap (λ (l : List ℕ). 0 ∷ l) (by-count n)
-
--- what is put behind a front lies over the buffer with it
-put-over : (d : List ℕ) (i : ℕ) (front w : List ℕ) → i ≤ length d → take i d ≡ front → put d i w ≡ over (front ++ w) d
-unfolding put
-put-over d i front w h e =
-    let n : length (front ++ w) ≡ i + length w = omega (arith, length-append front w, ap length e, length-take i d) in
-    rw (n, e)
 
 -- ---- the whole
 

@@ -16,7 +16,7 @@ use Rattle.text.proofs.SameLaws.{same-is, same-refl}
 use Rattle.text.proofs.TestLaws.{and-is}
 use Rattle.writer.specs.Array.{Array, noArray, payload, payloads, payloadSpans}
 use Rattle.writer.specs.FileWrapper.{fileWrapper}
-use Rattle.writer.specs.Spans.{offsetAt, lengthAt, endAt, stringAt, stringsFrom}
+use Rattle.writer.specs.Spans.{offsetAt, lengthAt, endAt, stringAt, stringsFrom, spansFrom}
 use Rattle.writer.proofs.LayoutLaws.{span-offset, span-end}
 use Rattle.writer.proofs.StringLaws.{length-strings}
 use Rattle.reader.specs.Saveobj.{decodedArray, isCanonicalPayload}
@@ -55,7 +55,7 @@ record Found (d w : List ℕ) (i n at : ℕ) : Type 0 where
 
 module _ (d w : List ℕ) (n : ℕ) (c : CellsInside d (length w) n) where
   walk-found : (k i at : ℕ) → i + k ≡ n → cellsWalk d w i k at ≡ true → Found d w i k at
-  unfolding cellsWalk stringsFrom payloads payloadSpans flatMap
+  unfolding cellsWalk stringsFrom payloads spansFrom flatMap
   walk-found zero i at h e =
       let z : 2 * i ≡ length d = omega (arith, c .pairs) in
       record { canonical = refl; pairs = rw z (drop-length d); rest = rw (eqb-true at (length w) e) (drop-length w) }

@@ -12,19 +12,19 @@ use lib.ListN.{length, getD, take, drop, replicate, length-take, length-drop, le
 use lib.Seq.{drop-cons, drop-length, length-take-le}
 use Rattle.text.specs.Buffer.{same}
 use Rattle.text.specs.Errors.{failureOf}
+use Rattle.text.specs.Replies.{checkedOf}
 use Rattle.text.specs.Result.{Result, ok, error, check, checkEach, _>>_}
 use Rattle.text.specs.declared.error.MatError.{MatError}
 use Rattle.text.specs.declared.error.MatError.the-variants.{InvalidDirectory, NotCanonical, OutputTooShort}
+use Rattle.text.specs.declared.reply.Checked.{Checked}
+use Rattle.text.specs.declared.reply.Checked.the-variants as checked
 use Rattle.text.proofs.ResultLaws.{reply-is, check-is, check-passed, checkEach-passed}
 use Rattle.text.proofs.TestLaws.{and-is, not-both}
 use Rattle.writer.specs.FileWrapper.{isFileWrapper}
 use Rattle.writer.specs.Spans.{offsetAt, lengthAt, endAt, stringAt}
 use Rattle.reader.specs.Cells.{isCell, checkDirectory}
 use Rattle.reader.proofs.CellLaws.{cell-within}
-use Rattle.reader.specs.Replies.{checkedOf}
 use Rattle.reader.specs.Saveobj.{isCanonicalPayload}
-use Rattle.reader.specs.declared.file_wrapper.Checked.{Checked}
-use Rattle.reader.specs.declared.file_wrapper.Checked.the-variants as checked
 use Rattle.store.specs.Store.{Store, Lengths, storeOf, counted, isCanonical}
 use Rattle.store.specs.Edits.{checkCounts, checkCounted, checkStore, checkRoom}
 use Rattle.store.specs.Stages.{lengths, CellsInside, cellsWalk, IsCut, CutChecked, CountsInside}

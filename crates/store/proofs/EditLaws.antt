@@ -7,9 +7,10 @@ use mathlib.Core.List.{List, [], _∷_, _++_, append-assoc}
 use native.Mathlib.Omega.{arith}
 use borrow.Author.Tests.{le-leb, leb-true}
 use lib.Dec.{leb}
-use lib.ListN.{length, getD, take, drop, set, replicate, length-append, length-take, length-drop, length-replicate, length-set}
+use lib.ListN.{length, getD, take, drop, set, replicate, length-append, length-take, length-replicate, length-set}
 use lib.Seq.{take-at}
 use Rattle.text.specs.Result.{Result, ok, error, check, needPlace, _>>_, _>>=_}
+use Rattle.text.proofs.BufferLaws.{length-over}
 use Rattle.text.proofs.ResultLaws.{check-is, check-passed, seq-passed, bind-passed}
 use Rattle.writer.specs.Array.{Array, noArray, Accepted, payload, arrayOf, payloads, payloadSpans}
 use Rattle.writer.specs.FileWrapper.{fileWrapper}
@@ -18,7 +19,7 @@ use Rattle.writer.proofs.FileWrapperLaws.{length-file-wrapper}
 use Rattle.writer.proofs.LayoutLaws.{length-payload-spans}
 use Rattle.reader.proofs.CanonicalLaws.{canonical-directory}
 use Rattle.store.specs.Store.{Store, Lengths, lengthsOf, serialize, counted, storedArrays}
-use Rattle.store.specs.Edits.{checkCounts, checkCounted, checkStore, checkObjectCount, checkRoom, checkAppend, appended, checkReplace, wordsAfter, replaced, replyOf, over, laid, storeAfter}
+use Rattle.store.specs.Edits.{checkCounts, checkCounted, checkStore, checkObjectCount, checkRoom, checkAppend, appended, checkReplace, wordsAfter, replaced, replyOf, laid, storeAfter}
 use Rattle.store.specs.Model.{Edit, append, replace, Ended, checkLengths, tried, candidate, listAfter, modelFrom, call, execute, ReadsBack, Edited}
 use Rattle.store.proofs.StoreLaws.{AllAccepted, stored-are, serialized-canonical, length-payloads-last, length-payloads-set, length-payload-nth, span-length, accepted-last, accepted-set, reads-back}
 
@@ -51,9 +52,6 @@ record Fits (l : Lengths) (ys : List Array) : Type 0 where
   directory : length (payloadSpans 0 ys) ≤ l .directory
   kinds : length (replicate {A = ℕ} (length ys) 0) ≤ l .kinds
   words : length (payloads ys) ≤ l .words
-
-length-over : (new old : List ℕ) → length new ≤ length old → length (over new old) ≡ length old
-length-over new old h = omega (arith, length-append new (drop (length new) old), length-drop (length new) old)
 
 module _ {l : Lengths} {xs : List Array} {s : Store} (k : Holds l xs s) where
   -- ---- what the counts and the counted parts are

@@ -8,9 +8,9 @@ use Rattle.text.specs.Product.{productFrom, productOf}
 use Rattle.text.specs.Result.{Result, ok, error, foldRange, foldCount}
 use Rattle.text.specs.Unicode.{utf16}
 use Rattle.text.specs.Utf8.{table, find, sequenceLength, secondRange, hasIn, matched, valueAt, wholeAt, nextAt, stepAt, partsCount, partsFrom, scalarsOf}
-use Rattle.writer.specs.Array.{Array, stringWords, payload, isShape, arrayOf, payloads, payloadSpans}
+use Rattle.writer.specs.Array.{Array, stringWords, payload, isShape, arrayOf, payloads}
 use Rattle.writer.specs.FileWrapper.{u32s, entriesFrom, region, regions, offsetsFrom, fileWrapper}
-use Rattle.writer.specs.Spans.{stringsFrom, checkString, checkStrings}
+use Rattle.writer.specs.Spans.{stringsFrom, checkString, checkStrings, spansFrom}
 use Rattle.writer.specs.Words.{value, packed}
 use Rattle.store.specs.Store.{Store, lengthsOf, storeOf, serialize, counted}
 use Rattle.store.specs.Model.{Edit, append, replace, checkLengths, tried, candidate, modelFrom, model, execute}
@@ -21,7 +21,7 @@ start : Store
 start = storeOf 0 144 0 (fileWrapper 0 ++ replicate 144 9) (replicate 6 9) (replicate 3 9) (replicate 14 9)
 
 is-empty : counted start ≡ serialize []
-unfolding start fileWrapper offsetsFrom regions region entriesFrom u32s flatMap payloads payloadSpans
+unfolding start fileWrapper offsetsFrom regions region entriesFrom u32s flatMap payloads spansFrom
 is-empty = refl
 
 -- "A", "BCDEF", "€"
@@ -47,7 +47,7 @@ refusals =
     ∷ []
 
 refusals-answers : model (lengthsOf start) refusals .replies ≡ ok tt ∷ refused 8 2 ∷ refused 8 0 ∷ refused 30 0 ∷ refused 31 0 ∷ refused 34 18 ∷ []
-unfolding start refusals modelFrom candidate tried checkLengths arrayOf checkStrings checkString isShape productOf productFrom foldRange foldCount stringsFrom payload payloads payloadSpans stringWords packed value fileWrapper offsetsFrom regions region entriesFrom u32s flatMap utf16 scalarsOf partsFrom partsCount stepAt wholeAt nextAt valueAt matched hasIn sequenceLength secondRange find table
+unfolding start refusals modelFrom candidate tried checkLengths arrayOf checkStrings checkString isShape productOf productFrom foldRange foldCount stringsFrom payload payloads spansFrom stringWords packed value fileWrapper offsetsFrom regions region entriesFrom u32s flatMap utf16 scalarsOf partsFrom partsCount stepAt wholeAt nextAt valueAt matched hasIn sequenceLength secondRange find table
 refusals-answers = refl
 
 -- so a run of the edits answers, and what it leaves holds the one array
@@ -72,7 +72,7 @@ arrays =
     ∷ []
 
 replacements-list : model (lengthsOf start) replacements .last ≡ arrays
-unfolding start replacements arrays modelFrom candidate tried checkLengths arrayOf checkStrings checkString isShape productOf productFrom foldRange foldCount stringsFrom payload payloads payloadSpans stringWords packed value fileWrapper offsetsFrom regions region entriesFrom u32s flatMap utf16 scalarsOf partsFrom partsCount stepAt wholeAt nextAt valueAt matched hasIn sequenceLength secondRange find table
+unfolding start replacements arrays modelFrom candidate tried checkLengths arrayOf checkStrings checkString isShape productOf productFrom foldRange foldCount stringsFrom payload payloads spansFrom stringWords packed value fileWrapper offsetsFrom regions region entriesFrom u32s flatMap utf16 scalarsOf partsFrom partsCount stepAt wholeAt nextAt valueAt matched hasIn sequenceLength secondRange find table
 replacements-list = refl
 
 replacements-store : counted (execute start replacements .last) ≡ serialize arrays

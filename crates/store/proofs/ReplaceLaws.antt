@@ -4,10 +4,11 @@ use Prim.Native.Nat.{ℕ, zero, suc, _+_, _-_, _*_, _^_, _≤_, _<_}
 use mathlib.Core.Path.{_≡_, refl, sym, ap, _∙_}
 use mathlib.Core.List.{List, [], _∷_, _++_}
 use native.Mathlib.Omega.{arith}
-use lib.ListN.{length, getD, take, drop, set, replicate, length-take, length-set, length-replicate, take-append-drop}
+use lib.ListN.{length, getD, take, drop, set, replicate, length-take, length-set, length-replicate}
 use lib.Seq.{paste}
 use Rattle.text.specs.Buffer.{put}
 use Rattle.text.specs.Result.{ok}
+use Rattle.text.proofs.BufferLaws.{kept-over}
 use Rattle.writer.specs.Array.{Array, noArray, payload, payloads, payloadSpans}
 use Rattle.writer.specs.FileWrapper.{fileWrapper}
 use Rattle.writer.specs.Spans.{offsetAt, lengthAt}
@@ -15,7 +16,7 @@ use Rattle.writer.specs.Stages.{arrayIn}
 use Rattle.writer.proofs.FileWrapperLaws.{length-file-wrapper}
 use Rattle.writer.proofs.LayoutLaws.{span-offset, span-end, payloads-within}
 use Rattle.store.specs.Store.{Store, storeOf, serialize, counted, storedArrays}
-use Rattle.store.specs.Edits.{replaced, over}
+use Rattle.store.specs.Edits.{replaced}
 use Rattle.store.specs.Moves.{spliced, shifted, Shiftable}
 use Rattle.store.specs.Replies.{Edits}
 use Rattle.store.specs.Stages.{ArrayFits, WordsFit, ReplacesWords, PairFits, ReplaceChecked, Replaceable}
@@ -46,10 +47,6 @@ pub pair-same : (d : List ℕ) (i n old new j x : ℕ) {d' : List ℕ} → d' �
 pair-same d i n old new j x e = ap length e ∙ length-shifted (set d j x) i n old new ∙ length-set d j x
 
 -- ---- the whole
-
--- what stands at the front already lies over the buffer
-kept-over : (d front : List ℕ) (n : ℕ) → take n d ≡ front → length front ≡ n → d ≡ over front d
-kept-over d front n e l = sym (take-append-drop n d) ∙ rw (l, e)
 
 module _ (o b u : ℕ) (bs ds ks ws : List ℕ) (id : ℕ) (dims text spans : List ℕ) (len : ℕ) (a : Replaceable (storeOf o b u bs ds ks ws) id dims text spans len) where
   abbrev s : Store

@@ -7,10 +7,10 @@ use native.Mathlib.Numerals.{add-one}
 use native.Mathlib.Omega.{arith}
 use lib.ListN.{length, getD, take, drop, set, length-append, length-take, length-drop, length-set, take-append-drop}
 use lib.Seq.{getD-at, getD-set-other, getD-take, length-take-le, set-at, set-getD}
+use Rattle.text.specs.Buffer.{over}
 use Rattle.writer.specs.Array.{Array, noArray, payload, payloads, payloadSpans}
-use Rattle.writer.specs.Spans.{offsetAt, lengthAt}
+use Rattle.writer.specs.Spans.{offsetAt, lengthAt, spansFrom}
 use Rattle.writer.proofs.LayoutLaws.{length-payload-spans, payloads-within, span-offset}
-use Rattle.store.specs.Edits.{over}
 use Rattle.store.specs.Moves.{shifted, Shiftable}
 use Rattle.store.proofs.StoreLaws.{length-payload-nth, length-payloads-set}
 
@@ -60,7 +60,7 @@ pub ruleset shifting = (shift-start, shift-after, shift-fits, shift-turn, shift-
 -- the spans after p
 shifts : (old new : ℕ) (xs : List Array) (p rest : List ℕ) (i o : ℕ) → length p ≡ 2 * i
     → shifted (p ++ (payloadSpans (o + old) xs ++ rest)) i (length xs) old new ≡ p ++ (payloadSpans (o + new) xs ++ rest)
-unfolding shifted payloadSpans
+unfolding shifted spansFrom
 shifts old new [] p rest i o h = refl
 shifts old new (x ∷ xs) p rest i o h =
     let n : ℕ = length (payload x) in
@@ -78,7 +78,7 @@ shifts old new (x ∷ xs) p rest i o h =
 -- cut at array k
 spans-cut : (o : ℕ) (xs : List Array) (k : ℕ) (a : Array) → k < length xs
     → payloadSpans o (set xs k a) ≡ payloadSpans o (take k xs) ++ offsetAt (payloadSpans o xs) k ∷ length (payload a) ∷ payloadSpans (offsetAt (payloadSpans o xs) k + length (payload a)) (drop (suc k) xs)
-unfolding payloadSpans
+unfolding spansFrom
 spans-cut o [] k a h = absurd (omega arith)
 spans-cut o (x ∷ xs) zero a h = refl
 spans-cut o (x ∷ xs) (suc k) a h =

@@ -6,11 +6,10 @@ use mathlib.Core.List.{List, [], _∷_, _++_, append-assoc, flatMap}
 use native.Mathlib.Omega.{arith}
 use lib.ListN.{length, getD, take, drop, set, replicate, length-append, length-take, length-drop, length-replicate, take-append-drop}
 use lib.Seq.{paste, take-length, take-all, take-at, drop-at, take-take, take-append-le, drop-drop, length-take-le, set-getD}
-use Rattle.text.specs.Buffer.{put}
+use Rattle.text.specs.Buffer.{put, over}
 use Rattle.writer.specs.Array.{Array, noArray, payload, payloads, payloadSpans}
 use Rattle.writer.specs.Spans.{offsetAt, lengthAt}
 use Rattle.writer.proofs.LayoutLaws.{span-offset}
-use Rattle.store.specs.Edits.{over}
 use Rattle.store.specs.Moves.{spliced}
 use Rattle.store.proofs.StoreLaws.{span-length}
 

@@ -10,25 +10,25 @@ use lib.Dec.{leb, eqb}
 use lib.ListN.{length, getD, take, set, length-take}
 use lib.Seq.{getD-take}
 use Rattle.text.specs.Errors.{failureOf}
+use Rattle.text.specs.Replies.{checkedOf, lengthReplyOf}
 use Rattle.text.specs.Result.{Result, ok, error, check, needPlace, checkOutput, _>>_, _>>=_}
 use Rattle.text.specs.declared.error.MatError.{MatError}
 use Rattle.text.specs.declared.error.MatError.the-variants.{LimitExceeded, ObjectIdOutOfRange, OutputTooShort}
+use Rattle.text.specs.declared.reply.LengthReply.{LengthReply}
+use Rattle.text.specs.declared.reply.LengthReply.the-variants as reply
+use Rattle.text.specs.declared.reply.Checked.{Checked}
+use Rattle.text.specs.declared.reply.Checked.the-variants as checked
 use Rattle.text.proofs.ResultLaws.{reply-is, check-is, check-passed, seq-passed}
 use Rattle.text.proofs.TestLaws.{and-is}
-use Rattle.writer.specs.Array.{Array, payload, arrayOf}
-use Rattle.writer.specs.Replies.{lengthReplyOf, measuredPayload}
+use Rattle.writer.specs.Array.{Array, payload}
+use Rattle.writer.specs.Replies.{measuredPayload}
 use Rattle.writer.specs.Spans.{lengthAt}
 use Rattle.writer.specs.Stages.{arrayIn}
-use Rattle.writer.specs.declared.string_object.LengthReply.{LengthReply}
-use Rattle.writer.specs.declared.string_object.LengthReply.the-variants as reply
 use Rattle.writer.proofs.ArrayLaws.{array-passed}
 use Rattle.writer.proofs.FileWrapperLaws.{length-file-wrapper}
 use Rattle.writer.proofs.PayloadLaws.{measured-passed, measured-failed}
 use Rattle.reader.specs.Cells.{checkDirectory}
-use Rattle.reader.specs.Replies.{checkedOf}
 use Rattle.reader.specs.Saveobj.{isCanonicalPayload}
-use Rattle.reader.specs.declared.file_wrapper.Checked.{Checked}
-use Rattle.reader.specs.declared.file_wrapper.Checked.the-variants as checked
 use Rattle.store.specs.Store.{Store, storeOf, lengthsOf, serialize, counted, cells, storedArrays, every, sameStore, isCanonical}
 use Rattle.store.specs.Edits.{checkCounts, checkCounted, checkStore, checkObjectCount, checkRoom, checkAppend, appended, checkReplace, wordsAfter, replaced}
 use Rattle.store.specs.Stages.{StoreChecked, ArrayChecked, AppendChecked, ChecksAppend, Appendable, Appends, ReplaceChecked, ChecksReplace, Replaceable, Replaces}
@@ -68,11 +68,8 @@ store-checked s e =
 module _ (dims text spans : List ℕ) {x : LengthReply} (e : lengthReplyOf x ≡ measuredPayload dims text spans) where
   array-checked : {n : ℕ} → x ≡ reply.Length n → ArrayChecked dims text spans n
   array-checked g =
-      let p = measured-passed dims text spans [] e (arrayOf dims text spans) refl g in
+      let p = measured-passed dims text spans e g in
       record { is = p .0; long = sym (p .1); most = omega (arith, p .1, array-passed dims text spans (p .0) .words) }
-
-  array-failed : {f : MatError} → x ≡ reply.Error f → arrayOf dims text spans ≡ error (failureOf f)
-  array-failed g = measured-failed dims text spans [] e (arrayOf dims text spans) refl g
 
 -- ---- append
 
@@ -84,7 +81,7 @@ module _ (s : Store) (dims text spans : List ℕ) {x : Checked} (e : checkedOf x
   module _ (g : x ≡ checked.Passed) {y : LengthReply} (m : lengthReplyOf y ≡ measuredPayload dims text spans) where
     pub append-no-array : {f : MatError} → y ≡ reply.Error f → ChecksAppend s dims text spans (reply.Error f)
     unfolding checkAppend
-    append-no-array h = rw (reply-is checkedOf e g, array-failed dims text spans m h)
+    append-no-array h = rw (reply-is checkedOf e g, measured-failed dims text spans m h)
 
     module _ {n : ℕ} (h : y ≡ reply.Length n) where
       pub append-many : 349522 ≤ s .objects → ChecksAppend s dims text spans (reply.Error (LimitExceeded (s .objects + 1)))
@@ -181,7 +178,7 @@ module _ (s : Store) (id : ℕ) (dims text spans : List ℕ) {x : Checked} (e : 
       module _ (h : id ≤ s .objects) {y : LengthReply} (m : lengthReplyOf y ≡ measuredPayload dims text spans) where
         pub replace-no-array : {f : MatError} → y ≡ reply.Error f → ChecksReplace s id dims text spans (reply.Error f)
         unfolding checkReplace
-        replace-no-array k = rw (reply-is checkedOf e g, array-failed dims text spans m k) (simp (le-leb 1 id l, le-leb id (s .objects) h))
+        replace-no-array k = rw (reply-is checkedOf e g, measured-failed dims text spans m k) (simp (le-leb 1 id l, le-leb id (s .objects) h))
 
         pub replace-checked : {n : ℕ} → y ≡ reply.Length n → ChecksReplace s id dims text spans (reply.Length n)
         replace-checked k = record { store = store-checked s (reply-is checkedOf e g); least = l; most = h; array = array-checked dims text spans m k }

@@ -13,10 +13,10 @@ use Rattle.text.specs.Result.{Result, ok, isOk, valuesOf}
 use Rattle.text.proofs.SameLaws.{same-refl}
 use Rattle.writer.specs.Array.{Array, noArray, Accepted, payload, stringWords, payloads, payloadSpans}
 use Rattle.writer.specs.FileWrapper.{fileWrapper}
-use Rattle.writer.specs.Spans.{lengthAt, stringsFrom}
+use Rattle.writer.specs.Spans.{lengthAt, stringsFrom, joined, spansFrom}
 use Rattle.writer.proofs.LayoutLaws.{payload-at}
 use Rattle.reader.specs.Queries.{intoOutput}
-use Rattle.reader.specs.Saveobj.{decodePayload, decodedArray, isCanonicalPayload, joined, intoStrings}
+use Rattle.reader.specs.Saveobj.{decodePayload, decodedArray, isCanonicalPayload, intoStrings}
 use Rattle.reader.proofs.BuiltLaws.{built-class, built-triples, built-name}
 use Rattle.reader.proofs.CanonicalLaws.{accepted-decodes, canonical-first, canonical-second}
 use Rattle.store.specs.Store.{Store, serialize, cells, storedArrays, every, sameStore, isCanonical}
@@ -106,7 +106,7 @@ length-payload-nth (x ∷ xs) zero h = omega (arith, length-append (payload x) (
 length-payload-nth (x ∷ xs) (suc k) h = omega (arith, length-append (payload x) (payloads xs), length-payload-nth xs k (omega arith))
 
 pub span-length : (o : ℕ) (xs : List Array) (k : ℕ) → k < length xs → lengthAt (payloadSpans o xs) k ≡ length (payload (getD xs k noArray))
-unfolding payloadSpans
+unfolding spansFrom
 span-length o [] k h = absurd (omega arith)
 span-length o (x ∷ xs) zero h = refl
 span-length o (x ∷ xs) (suc k) h =

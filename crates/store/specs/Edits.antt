@@ -3,7 +3,8 @@
 use Prim.Native.Nat.{ℕ, _+_, _-_, _*_}
 use mathlib.Core.List.{List, [], _∷_, _++_}
 use lib.Dec.{leb}
-use lib.ListN.{length, set, drop, replicate}
+use lib.ListN.{length, set, replicate}
+use Rattle.text.specs.Buffer.{over}
 use Rattle.text.specs.Result.{Result, ok, error, mapResult, check, checkOutput, _>>_, _>>=_}
 use Rattle.writer.specs.Array.{Array, payload, arrayOf}
 use Rattle.writer.specs.Spans.{lengthAt}
@@ -87,10 +88,6 @@ replaced s id dims text spans = do
 -- accepted or refused, without the value
 abbrev pub replyOf : {A : Type 0} → Result A → Result (Unit {0})
 replyOf m = mapResult (λ x. tt) m
-
--- a list over the front of a buffer, the rest kept
-abbrev pub over : List ℕ → List ℕ → List ℕ
-over new old = new ++ drop (length new) old
 
 -- the canonical form of arrays over the fronts of the buffers; "Words given up by a shorter replacement become 0."
 abbrev pub laid : Store → List Array → Store

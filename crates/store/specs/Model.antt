@@ -7,11 +7,12 @@ use lib.Dec.{leb}
 use lib.ListN.{length, getD, set}
 use Rattle.text.specs.Result.{Result, ok, error, check, checkOutput, _>>_, _>>=_}
 use Rattle.writer.specs.Array.{Array, noArray, arrayOf}
+use Rattle.writer.specs.Spans.{joined}
 use Rattle.reader.specs.Decode.{anyName, stringName, metadataStrings, objectStrings}
 use Rattle.reader.specs.Objects.{objectTriples}
 use Rattle.reader.specs.Opaque.{opaqueMetadata}
 use Rattle.reader.specs.Queries.{intoOutput, nameText, objectClassText}
-use Rattle.reader.specs.Saveobj.{joined, intoStrings}
+use Rattle.reader.specs.Saveobj.{intoStrings}
 use Rattle.reader.specs.declared.opaque.OpaqueMetadata.{OpaqueMetadata}
 use Rattle.store.specs.Store.{Store, Lengths, lengthsOf, serialize, counted}
 use Rattle.store.specs.Edits.{appended, replaced, replyOf, storeAfter}

@@ -6,18 +6,18 @@ use mathlib.Core.Bool.{Bool, _&&_}
 use mathlib.Core.List.{List, [], _∷_, _++_}
 use lib.Dec.{eqb}
 use lib.ListN.{length, set, replicate}
-use Rattle.text.specs.Buffer.{put}
+use Rattle.text.specs.Buffer.{put, over}
 use Rattle.text.specs.Errors.{failureOf}
 use Rattle.text.specs.Result.{ok, error}
+use Rattle.text.specs.declared.reply.LengthReply.{LengthReply}
+use Rattle.text.specs.declared.reply.LengthReply.the-variants as length-reply
 use Rattle.writer.specs.Array.{payload, arrayOf}
 use Rattle.writer.specs.Spans.{offsetAt, lengthAt, endAt, stringAt}
 use Rattle.writer.specs.Stages.{arrayIn}
-use Rattle.writer.specs.declared.string_object.LengthReply.{LengthReply}
-use Rattle.writer.specs.declared.string_object.LengthReply.the-variants as length-reply
 use Rattle.reader.specs.Saveobj.{isCanonicalPayload}
 use Rattle.store.specs.Store.{Store, Lengths, storeOf, serialize, counted, storedArrays}
 use Rattle.store.specs.Moves.{spliced, Shiftable}
-use Rattle.store.specs.Edits.{checkStore, checkAppend, appended, checkReplace, replaced, over}
+use Rattle.store.specs.Edits.{checkStore, checkAppend, appended, checkReplace, replaced}
 
 -- ---- 13 and 33
 

@@ -1,14 +1,14 @@
 // Checks 13 and 33 of an edit.
 use reader::cells::check_directory;
-use reader::file_wrapper::Checked;
 use reader::saveobj::is_canonical_payload;
 use text::convert::to_usize;
 use text::error::MatError;
+use text::reply::Checked;
 use writer::string_object::is_string_filewrapper_metadata;
 ghost use mathlib.Core.Path.{_≡_};
 ghost use lib.ListN.{length, replicate};
 ghost use Rattle.text.specs.Buffer.{same};
-ghost use Rattle.reader.specs.Replies.{checkedOf};
+ghost use Rattle.text.specs.Replies.{checkedOf};
 ghost use Rattle.store.specs.Store.{storeOf, counted, isCanonical};
 ghost use Rattle.store.specs.Edits.{checkCounts, checkCounted, checkStore};
 ghost use Rattle.store.specs.Stages.{CellsInside, cellsWalk, IsCut, CutChecked, CountsInside};

@@ -1,4 +1,4 @@
--- The laws of `put`, and of a loop that writes a text to the start of a buffer, piece by piece.
+-- The laws of `put` and `over`, and of a loop that writes a text to the start of a buffer, piece by piece.
 -- Assumes nothing.
 use mathlib.Core.Path.{_≡_, refl, _∙_, sym, ap, ap₂}
 use mathlib.Core.List.{List, [], _∷_, _++_, append-assoc, append-nil}
@@ -7,22 +7,36 @@ use native.Mathlib.Nat.{add-zero, zero-add}
 use native.Mathlib.Omega.{arith}
 use borrow.Author.Tests.{le-leb, lt-leb, leb-true, leb-false}
 use lib.Dec.{leb}
-use lib.ListN.{length, getD, take, drop, set, length-append, length-drop, take-append-drop}
+use lib.ListN.{length, getD, take, drop, set, length-append, length-take, length-drop, take-append-drop}
 use lib.Seq.{length-take-le, take-at, drop-at, set-at, drop-cons, drop-drop, append-snoc, take-suc, drop-append-le, slice}
-use Rattle.text.specs.Buffer.{put, Puts, placed, placedEnd, Places}
+use Rattle.text.specs.Buffer.{over, put, Puts, placed, placedEnd, Places}
 use Rattle.text.proofs.TestLaws.{either}
 
 pub put-none : (d : List ℕ) (at : ℕ) → put d at [] ≡ d
 unfolding put
 put-none d at = simp (append-nil, add-zero) (take-append-drop at d)
 
-pub put-front : (d w : List ℕ) → put d 0 w ≡ w ++ drop (length w) d
+pub put-front : (d w : List ℕ) → put d 0 w ≡ over w d
 unfolding put
 put-front d w = simp zero-add
 
 put-is : (d : List ℕ) (at : ℕ) (w : List ℕ) → put d at w ≡ take at d ++ w ++ drop (at + length w) d
 unfolding put
 put-is d at w = refl
+
+-- what is put behind a front lies over the buffer with it
+pub put-over : (d : List ℕ) (i : ℕ) (front w : List ℕ) → i ≤ length d → take i d ≡ front → put d i w ≡ over (front ++ w) d
+unfolding put
+put-over d i front w h e =
+    let n : length (front ++ w) ≡ i + length w = omega (arith, length-append front w, ap length e, length-take i d) in
+    rw (n, e)
+
+pub length-over : {A : Type 0} (new old : List A) → length new ≤ length old → length (over new old) ≡ length old
+length-over new old h = omega (arith, length-append new (drop (length new) old), length-drop (length new) old)
+
+-- what stands at the front already lies over the buffer
+pub kept-over : (d front : List ℕ) (n : ℕ) → take n d ≡ front → length front ≡ n → d ≡ over front d
+kept-over d front n e l = sym (take-append-drop n d) ∙ rw (l, e)
 
 module _ (d : List ℕ) (at : ℕ) (w : List ℕ) (room : at + length w ≤ length d) where
   head-length : length (take at d ++ w) ≡ at + length w
@@ -118,7 +132,7 @@ module _ {all rest w next d₀ d : List ℕ} {o : ℕ} (room : length all ≤ le
       })
 
 -- all is written
-pub ends : (all d₀ d : List ℕ) (o : ℕ) → SoFar all [] d₀ d o → d ≡ all ++ drop (length all) d₀
+pub ends : (all d₀ d : List ℕ) (o : ℕ) → SoFar all [] d₀ d o → d ≡ over all d₀
 ends all d₀ d o f =
     let n : o ≡ length all = omega arith in
     sym (take-append-drop o d)

@@ -18,9 +18,9 @@ use Rattle.text.specs.Result.{ok, error, needPlace}
 use Rattle.text.specs.Unicode.{isHighSurrogate, isLowSurrogate, isSurrogate, utf8, utf8s}
 use Rattle.text.specs.Utf16.{pairValue, unitStep, unitStepAt, scalars16, textOf, theText, TextFits, decodeUtf16}
 use Rattle.text.specs.declared.error.MatError.the-variants.{OutputTooShort, UnpairedSurrogate}
-use Rattle.text.specs.declared.utf16.TextLength.{TextLength}
-use Rattle.text.specs.declared.utf16.TextLength.the-variants as textLength
-use Rattle.text.specs.declared.utf16.TextReply.the-variants as textReply
+use Rattle.text.specs.declared.utf8.TextLength.{TextLength}
+use Rattle.text.specs.declared.utf8.TextLength.the-variants as textLength
+use Rattle.text.specs.declared.reply.LengthReply.the-variants as lengthReply
 use Rattle.text.specs.declared.utf16.UnitStep.{UnitStep}
 use Rattle.text.specs.declared.utf16.UnitStep.the-variants.{Scalar, Unpaired}
 use Rattle.text.proofs.BufferLaws.{SoFar, Splits, begins, fits-next, goes-on, ends, put-front}
@@ -214,10 +214,10 @@ module _ {us : List ℕ} {bytes i : ℕ} (m : Measuring us bytes i) where
               ∙ one-more bytes v (scalars16 (drop (i + n) us)) (ap (λ (k : ℕ). bytes + k) (z .0));
         }
 
-    pub measure-stop : x ≡ Unpaired → lengthOf textLength.Unpaired ≡ Option·map length (textOf us)
+    pub measure-stop : x ≡ Unpaired → lengthOf textLength.IllFormed ≡ Option·map length (textOf us)
     measure-stop g = sym (m .so-far ∙ ap (withRest bytes) (found-unpaired (m .reading) h e g))
 
-  pub measure-last : length us ≤ i → lengthOf (textLength.Bytes bytes) ≡ Option·map length (textOf us)
+  pub measure-last : length us ≤ i → lengthOf (textLength.Length bytes) ≡ Option·map length (textOf us)
   measure-last h =
       let z : bytes + length (utf8s []) ≡ bytes = omega (arith, ap length utf8s-nil) in
       sym (m .so-far ∙ ap (withRest bytes) (none-left us i h) ∙ ap some z)
@@ -281,20 +281,20 @@ module _ {us d₀ d : List ℕ} {i o : ℕ} (w : Writing us d₀ d i o) where
 
 -- what a length says of the text
 abbrev Measured : List ℕ → TextLength → Type 0
-Measured us (textLength.Bytes n) = (textOf us ≡ some (theText us)) × (length (theText us) ≡ n)
-Measured us textLength.Unpaired = textOf us ≡ none
+Measured us (textLength.Length n) = (textOf us ≡ some (theText us)) × (length (theText us) ≡ n)
+Measured us textLength.IllFormed = textOf us ≡ none
 
 measured : (us : List ℕ) (x : TextLength) (o : Option (List ℕ)) → textOf us ≡ o → lengthOf x ≡ Option·map length o → Measured us x
-measured us (textLength.Bytes n) none e f = not-some (sym f)
-measured us (textLength.Bytes n) (some t) e f =
+measured us (textLength.Length n) none e f = not-some (sym f)
+measured us (textLength.Length n) (some t) e f =
     let s : theText us ≡ t = ap (λ (o : Option (List ℕ)). Option·getD o []) e in
     (e ∙ ap some (sym s), ap length s ∙ sym (Option·some-injective n (length t) f))
-measured us textLength.Unpaired none e f = e
-measured us textLength.Unpaired (some t) e f = not-some f
+measured us textLength.IllFormed none e f = e
+measured us textLength.IllFormed (some t) e f = not-some f
 
 module _ (us text : List ℕ) where
   too-short : (need : ℕ) → textOf us ≡ some (theText us) → length text < length (theText us) → need ≡ needPlace (length (theText us))
-      → DecodesUtf16 us text (textReply.Error (OutputTooShort need)) text
+      → DecodesUtf16 us text (lengthReply.Error (OutputTooShort need)) text
   unfolding decodeUtf16
   too-short need t h p =
       writes (decodeUtf16 us) text (error (record { number = 34; place = need }))
@@ -304,8 +304,8 @@ module _ (us text : List ℕ) where
     said : {y : TextLength} → x ≡ y → Measured us y
     said {y} g = subst (Measured us) g (measured us x (textOf us) refl e)
 
-    module _ {n : ℕ} (g : x ≡ textLength.Bytes n) where
-      pub decode-short : n < 2 ^ 64 → length text < n → DecodesUtf16 us text (textReply.Error (OutputTooShort n)) text
+    module _ {n : ℕ} (g : x ≡ textLength.Length n) where
+      pub decode-short : n < 2 ^ 64 → length text < n → DecodesUtf16 us text (lengthReply.Error (OutputTooShort n)) text
       decode-short f h =
           let s = said g in
           too-short n (s .0) (omega arith) (omega arith)
@@ -313,13 +313,13 @@ module _ (us text : List ℕ) where
       pub decode-fits : n ≤ length text → TextFits us text
       decode-fits h = let s = said g in record { is-text = s .0; fits = omega arith }
 
-      pub decode-written : n ≤ length text → {text' : List ℕ} → text' ≡ put text 0 (theText us) → DecodesUtf16 us text (textReply.Text n) text'
+      pub decode-written : n ≤ length text → {text' : List ℕ} → text' ≡ put text 0 (theText us) → DecodesUtf16 us text (lengthReply.Length n) text'
       unfolding decodeUtf16
       decode-written h {text'} b =
           let s = said g in
           writes (decodeUtf16 us) text (ok (theText us)) (rw (s .0) (simp (le-leb (length (theText us)) (length text) (omega arith)))) (ap ok (sym (s .1)))
           (b ∙ put-front text (theText us))
 
-    pub decode-unpaired : x ≡ textLength.Unpaired → DecodesUtf16 us text (textReply.Error (UnpairedSurrogate 0)) text
+    pub decode-unpaired : x ≡ textLength.IllFormed → DecodesUtf16 us text (lengthReply.Error (UnpairedSurrogate 0)) text
     unfolding decodeUtf16
     decode-unpaired g = writes (decodeUtf16 us) text (error (record { number = 29; place = 0 })) (rw (said g)) refl refl

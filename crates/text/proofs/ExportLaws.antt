@@ -14,7 +14,7 @@ use Rattle.text.specs.Buffer.{put, Places}
 use Rattle.text.specs.Errors.{failureOf}
 use Rattle.text.specs.Latin9.{codePoint, byteOf, bytesFrom, latin9Bytes, exportLatin9}
 use Rattle.text.specs.Latin9Stages.{byteReplyOf, sizeBy, Stands, BytesFit}
-use Rattle.text.specs.Replies.{textReplyOf, WritesText}
+use Rattle.text.specs.Replies.{lengthReplyOf, Writes}
 use Rattle.text.specs.Result.{Result, ok, error, mapResult, orError, valuesOf, _>>=_}
 use Rattle.text.specs.Stages.{wholeLength, isText}
 use Rattle.text.specs.Unicode.{utf8}
@@ -23,8 +23,8 @@ use Rattle.text.specs.declared.error.MatError.{MatError}
 use Rattle.text.specs.declared.error.MatError.the-variants.{InvalidText, UnmappableCharacter, OutputTooShort}
 use Rattle.text.specs.declared.latin9.ByteReply.{ByteReply}
 use Rattle.text.specs.declared.latin9.ByteReply.the-variants.{Byte, Unmappable}
-use Rattle.text.specs.declared.utf16.TextReply.{TextReply}
-use Rattle.text.specs.declared.utf16.TextReply.the-variants.{Text, Error}
+use Rattle.text.specs.declared.reply.LengthReply.{LengthReply}
+use Rattle.text.specs.declared.reply.LengthReply.the-variants.{Length, Error}
 use Rattle.text.specs.declared.utf8.Step.{Step}
 use Rattle.text.specs.declared.utf8.Step.the-variants.{Scalar, IllFormed, End}
 use Rattle.text.proofs.BufferLaws.{SoFar, Splits, begins, fits-next, goes-on, ends, put-front, places-front}
@@ -33,7 +33,7 @@ use Rattle.text.proofs.CountLaws.{broken-here, scalar-here, whole-is}
 use Rattle.text.proofs.Latin9Laws.{byte-back, byte-is, ascii-point, point-top, far-none, gave-way, exported-text, own-text}
 use Rattle.text.proofs.LeadLaws.{ascii, lead-range, starts-byte, not-one}
 use Rattle.text.proofs.PartLaws.{Reads, step-reads, step-end, parts-end, parts-scalar, parts-ill-formed}
-use Rattle.text.proofs.ReplyLaws.{writes, told-text, told-error}
+use Rattle.text.proofs.ReplyLaws.{writes, told-length, told-error}
 use Rattle.text.proofs.ResultLaws.{same-value, bind-passed, orError-passed}
 use Rattle.text.proofs.ScalarLaws.{by-size}
 use Rattle.text.proofs.TestLaws.{not-both, and-is}
@@ -198,7 +198,7 @@ module _ (t : List ℕ) where
     measure-ascii h b = measure-scalar (sym (ascii t i h b)) (ascii-byte (getD t i 0) b)
 
     module _ {r : ℕ} (h : i < length t) (e : r ≡ wholeLength t i) where
-      pub measure-broken : r ≡ 0 → textReplyOf (Error (InvalidText 0)) ≡ mapResult length (latin9Bytes t)
+      pub measure-broken : r ≡ 0 → lengthReplyOf (Error (InvalidText 0)) ≡ mapResult length (latin9Bytes t)
       unfolding scalarsOf
       measure-broken z = sym (rw (parts-ill-formed t i (broken-here t i h (sym e ∙ z))) at (m .so-far))
 
@@ -218,15 +218,15 @@ module _ (t : List ℕ) where
             unfolding scalarsOf
             left-over = rw (parts-scalar t i (measure-stands .step)) at (m .so-far)
 
-            pub measure-unmappable : y ≡ true → textReplyOf (Error (UnmappableCharacter n)) ≡ mapResult length (latin9Bytes t)
+            pub measure-unmappable : y ≡ true → lengthReplyOf (Error (UnmappableCharacter n)) ≡ mapResult length (latin9Bytes t)
             measure-unmappable q =
                 let k = text-is (scalarsOf (partsFrom t (i + r))) (sym rest ∙ q) in
                 sym (left-over ∙ rw (k .1) (not-mapped n (valueAt t i r) (sym (ap byteReplyOf g) ∙ is) (k .0)))
 
-            pub measure-late : y ≡ false → textReplyOf (Error (InvalidText 0)) ≡ mapResult length (latin9Bytes t)
+            pub measure-late : y ≡ false → lengthReplyOf (Error (InvalidText 0)) ≡ mapResult length (latin9Bytes t)
             measure-late q = sym (left-over ∙ rw (text-not (scalarsOf (partsFrom t (i + r))) (sym rest ∙ q)))
 
-    pub measure-last : length t ≤ i → textReplyOf (Text n) ≡ mapResult length (latin9Bytes t)
+    pub measure-last : length t ≤ i → lengthReplyOf (Length n) ≡ mapResult length (latin9Bytes t)
     unfolding scalarsOf bytesFrom
     measure-last h =
         let z : n + 0 ≡ n = omega arith in
@@ -373,19 +373,19 @@ module _ {t d₀ d : List ℕ} {i o : ℕ} (w : Writing t d₀ d i o) where
 
 -- ---- the outcomes of `export_latin9`, by the length that was measured
 
-module _ (t out : List ℕ) {x : TextReply} (e : textReplyOf x ≡ mapResult length (latin9Bytes t)) where
-  pub export-refused : {f : MatError} → x ≡ Error f → WritesText (exportLatin9 t) out (Error f) out
+module _ (t out : List ℕ) {x : LengthReply} (e : lengthReplyOf x ≡ mapResult length (latin9Bytes t)) where
+  pub export-refused : {f : MatError} → x ≡ Error f → Writes (exportLatin9 t) out (Error f) out
   unfolding exportLatin9
-  export-refused {f} g = writes (exportLatin9 t) out (error (failureOf f)) (rw (told-error (latin9Bytes t) e g)) refl refl
+  export-refused {f} g = writes (exportLatin9 t) out (error (failureOf f)) (rw (told-error length (latin9Bytes t) e g)) refl refl
 
-  module _ {n : ℕ} (g : x ≡ Text n) where
+  module _ {n : ℕ} (g : x ≡ Length n) where
     accepted : (latin9Bytes t ≡ ok (valuesOf (latin9Bytes t))) × (length (valuesOf (latin9Bytes t)) ≡ n)
     accepted =
-        let p = told-text (latin9Bytes t) e g in
+        let p = told-length length (latin9Bytes t) e g in
         let v : valuesOf (latin9Bytes t) ≡ p .0 = ap valuesOf (p .1 .0) in
         (p .1 .0 ∙ ap ok (sym v), ap length v ∙ p .1 .1)
 
-    pub export-short : n < 2 ^ 64 → length out < n → WritesText (exportLatin9 t) out (Error (OutputTooShort n)) out
+    pub export-short : n < 2 ^ 64 → length out < n → Writes (exportLatin9 t) out (Error (OutputTooShort n)) out
     unfolding exportLatin9
     export-short f h =
         let a = accepted in
@@ -397,7 +397,7 @@ module _ (t out : List ℕ) {x : TextReply} (e : textReplyOf x ≡ mapResult len
       pub export-fits : BytesFit t out
       export-fits = record { are-bytes = accepted .0; fits = omega (arith, accepted .1) }
 
-      pub export-written : {out' : List ℕ} → out' ≡ put out 0 (valuesOf (latin9Bytes t)) → WritesText (exportLatin9 t) out (Text n) out'
+      pub export-written : {out' : List ℕ} → out' ≡ put out 0 (valuesOf (latin9Bytes t)) → Writes (exportLatin9 t) out (Length n) out'
       unfolding exportLatin9
       export-written w =
           let a = accepted in
@@ -406,7 +406,7 @@ module _ (t out : List ℕ) {x : TextReply} (e : textReplyOf x ≡ mapResult len
           (w ∙ put-front out (valuesOf (latin9Bytes t)))
 
       -- the text itself is written where its bytes are as many
-      pub export-own : n ≡ length t → {o : ℕ} {out' : List ℕ} → Places out 0 t o out' → WritesText (exportLatin9 t) out (Text n) out'
+      pub export-own : n ≡ length t → {o : ℕ} {out' : List ℕ} → Places out 0 t o out' → Writes (exportLatin9 t) out (Length n) out'
       export-own z w =
           let a = accepted in
           let s = exported-text t (a .0) in

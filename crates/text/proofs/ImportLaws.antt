@@ -13,17 +13,17 @@ use lib.Seq.{drop-cons}
 use Rattle.text.specs.Buffer.{put, Places}
 use Rattle.text.specs.Errors.{failureOf}
 use Rattle.text.specs.Latin9.{exceptions, pointIn, codePoint, latin9Text, importLatin9}
-use Rattle.text.specs.Replies.{textReplyOf, WritesText}
+use Rattle.text.specs.Replies.{lengthReplyOf, Writes}
 use Rattle.text.specs.Result.{ok, error, mapResult, checkOutput}
 use Rattle.text.specs.Unicode.{Below, utf8}
 use Rattle.text.specs.declared.error.MatError.{MatError}
 use Rattle.text.specs.declared.error.MatError.the-variants.{OutputTooShort}
-use Rattle.text.specs.declared.utf16.TextReply.{TextReply}
-use Rattle.text.specs.declared.utf16.TextReply.the-variants.{Text, Error}
+use Rattle.text.specs.declared.reply.LengthReply.{LengthReply}
+use Rattle.text.specs.declared.reply.LengthReply.the-variants.{Length, Error}
 use Rattle.text.proofs.BufferLaws.{SoFar, Splits, begins, fits-next, goes-on, ends, put-front, places-front}
 use Rattle.text.proofs.ByteLaws.{stores}
 use Rattle.text.proofs.Latin9Laws.{ascii-point, text-length, own-text}
-use Rattle.text.proofs.ReplyLaws.{writes, told-text, told-error}
+use Rattle.text.proofs.ReplyLaws.{writes, told-length, told-error}
 use Rattle.text.proofs.ResultLaws.{same-value, seq-passed, check-is}
 use Rattle.text.proofs.ScalarLaws.{utf8-1, utf8s-nil, utf8s-cons}
 use Rattle.text.proofs.TestLaws.{either, agree}
@@ -92,20 +92,20 @@ module _ (bs : List ℕ) where
 
 module _ (bs : List ℕ) (more room : ℕ) (need : length bs + more ≡ length (latin9Text bs)) where
   pub measured-past : length bs < 2 ^ 64 → 18446744073709551615 - length bs < more → room < 2 ^ 64
-      → textReplyOf (Error (OutputTooShort 18446744073709551615)) ≡ mapResult length (importLatin9 bs room)
+      → lengthReplyOf (Error (OutputTooShort 18446744073709551615)) ≡ mapResult length (importLatin9 bs room)
   unfolding importLatin9
   measured-past f h r =
       let p : 18446744073709551615 ≡ min (length (latin9Text bs)) (2 ^ 64 - 1) = omega (arith, need) in
       simp (lt-leb (length (latin9Text bs)) room (omega (arith, need)), sym p)
 
   pub measured-short : length bs < 2 ^ 64 → more ≤ 18446744073709551615 - length bs → room < length bs + more
-      → textReplyOf (Error (OutputTooShort (length bs + more))) ≡ mapResult length (importLatin9 bs room)
+      → lengthReplyOf (Error (OutputTooShort (length bs + more))) ≡ mapResult length (importLatin9 bs room)
   unfolding importLatin9
   measured-short l f h =
       let p : length bs + more ≡ min (length (latin9Text bs)) (2 ^ 64 - 1) = omega (arith, need) in
       simp (lt-leb (length (latin9Text bs)) room (omega (arith, need)), sym p)
 
-  pub measured-fits : length bs + more ≤ room → textReplyOf (Text (length bs + more)) ≡ mapResult length (importLatin9 bs room)
+  pub measured-fits : length bs + more ≤ room → lengthReplyOf (Length (length bs + more)) ≡ mapResult length (importLatin9 bs room)
   unfolding importLatin9
   measured-fits h = simp (le-leb (length (latin9Text bs)) room (omega (arith, need)), need)
 
@@ -159,22 +159,22 @@ module _ (bs : List ℕ) where
 
 -- ---- the outcomes of `import_latin9`, by the length that was measured
 
-module _ (bs text : List ℕ) {x : TextReply} (e : textReplyOf x ≡ mapResult length (importLatin9 bs (length text))) where
-  pub import-refused : {f : MatError} → x ≡ Error f → WritesText (importLatin9 bs) text (Error f) text
-  import-refused {f} g = writes (importLatin9 bs) text (error (failureOf f)) (told-error (importLatin9 bs (length text)) e g) refl refl
+module _ (bs text : List ℕ) {x : LengthReply} (e : lengthReplyOf x ≡ mapResult length (importLatin9 bs (length text))) where
+  pub import-refused : {f : MatError} → x ≡ Error f → Writes (importLatin9 bs) text (Error f) text
+  import-refused {f} g = writes (importLatin9 bs) text (error (failureOf f)) (told-error length (importLatin9 bs (length text)) e g) refl refl
 
-  module _ {n : ℕ} (g : x ≡ Text n) where
+  module _ {n : ℕ} (g : x ≡ Length n) where
     accepted : (length (latin9Text bs) ≤ length text) × (length (latin9Text bs) ≡ n)
     unfolding importLatin9
     accepted =
-        let p = told-text (importLatin9 bs (length text)) e g in
+        let p = told-length length (importLatin9 bs (length text)) e g in
         let q = seq-passed (checkOutput (length (latin9Text bs)) (length text)) (ok (latin9Text bs)) (p .1 .0) in
         (leb-true _ _ (check-is 34 (leb (length (latin9Text bs)) (length text)) _ (q .1 .0)), ap length (same-value (q .1 .1)) ∙ p .1 .1)
 
     pub import-room : length (latin9Text bs) ≤ length text
     import-room = accepted .0
 
-    pub import-written : {text' : List ℕ} → text' ≡ put text 0 (latin9Text bs) → WritesText (importLatin9 bs) text (Text n) text'
+    pub import-written : {text' : List ℕ} → text' ≡ put text 0 (latin9Text bs) → Writes (importLatin9 bs) text (Length n) text'
     unfolding importLatin9
     import-written w =
         writes (importLatin9 bs) text (ok (latin9Text bs)) (simp (le-leb (length (latin9Text bs)) (length text) (accepted .0))) (ap ok (sym (accepted .1)))
@@ -185,5 +185,5 @@ module _ (bs text : List ℕ) {x : TextReply} (e : textReplyOf x ≡ mapResult l
       is-own : latin9Text bs ≡ bs
       is-own = own-text bs (accepted .1 ∙ z)
 
-      pub import-own : {o : ℕ} {text' : List ℕ} → Places text 0 bs o text' → WritesText (importLatin9 bs) text (Text n) text'
+      pub import-own : {o : ℕ} {text' : List ℕ} → Places text 0 bs o text' → Writes (importLatin9 bs) text (Length n) text'
       import-own w = import-written (places-front text bs (omega (arith, accepted .0, accepted .1)) w ∙ ap (put text 0) (sym is-own))

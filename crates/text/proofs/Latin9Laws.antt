@@ -12,10 +12,10 @@ use lib.ListN.{length, getD, length-append}
 use Rattle.text.specs.Latin9.{Exception, exceptions, pointIn, codePoint, byteFrom, byteOf, bytesFrom, latin9Bytes, exportLatin9, latin9Text, importLatin9}
 use Rattle.text.specs.Latin9Stages.{IsTable}
 use Rattle.text.specs.Result.{Result, ok, orError, mapResult, checkOutput, _>>_, _>>=_}
-use Rattle.text.specs.Replies.{textReplyOf}
+use Rattle.text.specs.Replies.{lengthReplyOf}
 use Rattle.text.specs.Unicode.{Below, utf8, utf8s}
 use Rattle.text.specs.Utf8.{scalars8}
-use Rattle.text.specs.declared.utf16.TextReply.the-variants.{Text}
+use Rattle.text.specs.declared.reply.LengthReply.the-variants.{Length}
 use Rattle.text.proofs.AsciiLaws.{below-more}
 use Rattle.text.proofs.ByteLaws.{size-2, size-3, size-4}
 use Rattle.text.proofs.ResultLaws.{same-value, seq-passed, bind-passed, orError-passed}
@@ -230,6 +230,6 @@ module _ (bs : List ℕ) {high : ℕ} (p : Below (high + 1) bs) (h : high < 0x80
   pub ascii-import : length bs + 0 ≡ length (latin9Text bs)
   ascii-import = omega (arith, ap length (ascii-text bs below))
 
-  pub ascii-export : textReplyOf (Text (length bs)) ≡ mapResult length (latin9Bytes bs)
+  pub ascii-export : lengthReplyOf (Length (length bs)) ≡ mapResult length (latin9Bytes bs)
   ascii-export =
       sym (ap (mapResult length) (ap latin9Bytes (sym (ascii-text bs below)) ∙ imported-bytes bs (below-more (high + 1) 256 bs (omega arith) p)))

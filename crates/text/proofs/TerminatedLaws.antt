@@ -9,11 +9,11 @@ use native.Mathlib.Omega.{arith}
 use borrow.Author.Tests.{eq-eqb, ne-eqb, eqb-true, eqb-false, lt-ltb, ltb-true, ltb-false, lt-leb, leb-false}
 use lib.Dec.{leb, ltb, eqb}
 use lib.ListN.{length, getD}
-use Rattle.text.specs.Replies.{terminatedLength, terminatedOf}
+use Rattle.text.specs.Replies.{terminatedLength, lengthOf}
 use Rattle.text.specs.Stages.{wholeLength}
 use Rattle.text.specs.Utf8.{sequenceLength, secondRange, hasIn, matched, wholeAt, scalars8, beforeZero}
-use Rattle.text.specs.declared.utf8.TerminatedLength.{TerminatedLength}
-use Rattle.text.specs.declared.utf8.TerminatedLength.the-variants as terminated
+use Rattle.text.specs.declared.utf8.TextLength.{TextLength}
+use Rattle.text.specs.declared.utf8.TextLength.the-variants as textLength
 use Rattle.text.proofs.CountLaws.{Counting, count-start, count-ascii, count-whole, count-stop, count-last, valid-units, valid-place}
 use Rattle.text.proofs.LeadLaws.{starts-byte, second-least}
 use Rattle.text.proofs.LossyLaws.{valid-scalars, invalid-scalars}
@@ -137,34 +137,34 @@ module _ {s : List ℕ} {i : ℕ} (e : Ending s i) where
     pub ending-whole : (r ≡ 0 → ⊥) → Ending s (i + r)
     ending-whole m = record { units = _; counting = count-whole (beforeZero s) (e .counting) (inside n) here m refl }
 
-    pub ending-broken : r ≡ 0 → terminatedOf terminated.IllFormed ≡ terminatedLength s
+    pub ending-broken : r ≡ 0 → lengthOf textLength.IllFormed ≡ terminatedLength s
     ending-broken z =
         let c = count-stop (beforeZero s) (e .counting) (inside n) here z in
         sym (ap (Option·map (λ _. length (beforeZero s))) (invalid-scalars (beforeZero s) (valid-place (beforeZero s) c refl) refl))
 
-  ended : length (beforeZero s) ≤ i → terminatedOf (terminated.Length i) ≡ terminatedLength s
+  ended : length (beforeZero s) ≤ i → lengthOf (textLength.Length i) ≡ terminatedLength s
   ended l =
       let c = count-last (beforeZero s) (e .counting) l in
       let z : i ≡ length (beforeZero s) = omega (arith, e .counting .bound) in
       ap some z ∙ sym (ap (Option·map (λ _. length (beforeZero s))) (valid-scalars (beforeZero s) (valid-units (beforeZero s) c refl) refl))
 
-  pub ending-zero : getD s i 0 ≡ 0 → terminatedOf (terminated.Length i) ≡ terminatedLength s
+  pub ending-zero : getD s i 0 ≡ 0 → lengthOf (textLength.Length i) ≡ terminatedLength s
   ending-zero z =
       ended
       (either (ltb i (length (beforeZero s))) (λ t. absurd (before-byte s i (ltb-true i (length (beforeZero s)) t) .1 z))
       (λ t. ltb-false i (length (beforeZero s)) t))
 
-  pub ending-last : length s ≤ i → terminatedOf (terminated.Length i) ≡ terminatedLength s
+  pub ending-last : length s ≤ i → lengthOf (textLength.Length i) ≡ terminatedLength s
   ending-last l = ended (omega (arith, before-le s))
 
 -- ---- what a reply says
 
-module _ (s : List ℕ) {x : TerminatedLength} (e : terminatedOf x ≡ terminatedLength s) where
-  pub terminated-is : {n : ℕ} → x ≡ terminated.Length n → (vs : List ℕ) × ((scalars8 (beforeZero s) ≡ some vs) × (n ≡ length (beforeZero s)))
-  terminated-is g = map-is (λ _. length (beforeZero s)) (scalars8 (beforeZero s)) (sym e ∙ ap terminatedOf g)
+module _ (s : List ℕ) {x : TextLength} (e : lengthOf x ≡ terminatedLength s) where
+  pub terminated-is : {n : ℕ} → x ≡ textLength.Length n → (vs : List ℕ) × ((scalars8 (beforeZero s) ≡ some vs) × (n ≡ length (beforeZero s)))
+  terminated-is g = map-is (λ _. length (beforeZero s)) (scalars8 (beforeZero s)) (sym e ∙ ap lengthOf g)
 
-  pub terminated-not : x ≡ terminated.IllFormed → scalars8 (beforeZero s) ≡ none
-  terminated-not g = none-of (scalars8 (beforeZero s)) (sym e ∙ ap terminatedOf g)
+  pub terminated-not : x ≡ textLength.IllFormed → scalars8 (beforeZero s) ≡ none
+  terminated-not g = none-of (scalars8 (beforeZero s)) (sym e ∙ ap lengthOf g)
     where
       none-of : (m : Option (List ℕ)) → Option·map (λ _. length (beforeZero s)) m ≡ none → m ≡ none
       none-of none q = refl

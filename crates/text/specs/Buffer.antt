@@ -1,4 +1,4 @@
--- Lists of bytes: whether two are the same, and one written into another from an index on.
+-- Lists of bytes: whether two are the same, and one written into another, at its front or from an index on.
 -- Assumes nothing.
 use Prim.Native.Nat.{ℕ, _+_}
 use mathlib.Core.Path.{_≡_}
@@ -13,6 +13,10 @@ same [] [] = true
 same [] (y ∷ ys) = false
 same (x ∷ xs) [] = false
 same (x ∷ xs) (y ∷ ys) = eqb x y && same xs ys
+
+-- a list over the front of a buffer, the rest kept
+abbrev pub over : {A : Type 0} → List A → List A → List A
+over new old = new ++ drop (length new) old
 
 -- d with w from index i on
 unfoldable pub put : List ℕ → ℕ → List ℕ → List ℕ

@@ -2,10 +2,10 @@
 -- Assumes nothing.
 use Prim.Native.Nat.{ℕ, zero, suc, _-_, _^_, min}
 use mathlib.Core.Bool.{Bool, true, false}
-use mathlib.Core.List.{List, [], _++_}
+use mathlib.Core.List.{List, []}
 use mathlib.Core.Option.{Option, some, none}
 use lib.Dec.{leb}
-use lib.ListN.{length, drop}
+use Rattle.text.specs.Buffer.{over}
 use Rattle.text.specs.declared.error.Failure.{Failure}
 
 -- what a call comes to
@@ -77,5 +77,5 @@ checkOutput need room = check 34 (leb need room) (needPlace need)
 
 -- what an output buffer holds after a call: its part of the value over its front and the rest kept, or all of it kept
 abbrev pub overwritten : {A B : Type 0} → (A → List B) → Result A → List B → List B
-overwritten f (ok a) old = f a ++ drop (length (f a)) old
+overwritten f (ok a) old = over (f a) old
 overwritten f (error e) old = old

@@ -1,11 +1,11 @@
 // ISO 8859-15, also called Latin-9, which displays take: a text as one byte a character, and such bytes as a text again.
 use crate::copy::copy_bytes;
 use crate::error::MatError;
+use crate::reply::LengthReply;
 use crate::utf8::highest;
 use crate::utf8::is_text_from;
 use crate::utf8::put_utf8;
 use crate::utf8::whole_length;
-use crate::utf16::TextReply;
 ghost use mathlib.Core.Path.{_≡_};
 ghost use mathlib.Core.Bool.{not};
 ghost use Prim.Native.Nat.{_+_, _≤_, _<_};
@@ -14,7 +14,7 @@ ghost use lib.ListN.{length};
 ghost use Rattle.text.specs.Buffer.{put};
 ghost use Rattle.text.specs.Latin9.{codePoint, byteOf, latin9Bytes, exportLatin9, latin9Text, importLatin9};
 ghost use Rattle.text.specs.Latin9Stages.{IsTable, byteReplyOf, sizeBy, Stands, BytesFit};
-ghost use Rattle.text.specs.Replies.{textReplyOf, WritesText};
+ghost use Rattle.text.specs.Replies.{lengthReplyOf, Writes};
 ghost use Rattle.text.specs.Result.{mapResult, valuesOf};
 ghost use Rattle.text.specs.Unicode.{utf8};
 ghost use Rattle.text.specs.Utf8.{valueAt};
@@ -92,11 +92,11 @@ fn byte_at(text: &[u8], at: usize, size: usize) -> ByteReply
 }
 
 // The number of bytes that a text is exported to, which is that of its characters, or the refusal by 30 or 36.
-fn export_length(text: &[u8]) -> TextReply
-    ensures { λ r. ⌜ textReplyOf r ≡ mapResult length (latin9Bytes (now (text .entry))) ⌝ }
+fn export_length(text: &[u8]) -> LengthReply
+    ensures { λ r. ⌜ lengthReplyOf r ≡ mapResult length (latin9Bytes (now (text .entry))) ⌝ }
 {
     if highest(text) < 0x80 {
-        return TextReply::Text(text.len());
+        return LengthReply::Length(text.len());
     }
     let mut n: usize = 0;
     let mut i: usize = 0;
@@ -108,7 +108,7 @@ fn export_length(text: &[u8]) -> TextReply
         }
         let size = whole_length(text, i);
         if size == 0 {
-            return TextReply::Error(MatError::InvalidText(0));
+            return LengthReply::Error(MatError::InvalidText(0));
         }
         match byte_at(text, i, size) {
             ByteReply::Byte(_) => {
@@ -118,13 +118,13 @@ fn export_length(text: &[u8]) -> TextReply
             ByteReply::Unmappable => {
                 // 30 is put to the whole text before 36.
                 if is_text_from(text, i + size) {
-                    return TextReply::Error(MatError::UnmappableCharacter(n as u64));
+                    return LengthReply::Error(MatError::UnmappableCharacter(n as u64));
                 }
-                return TextReply::Error(MatError::InvalidText(0));
+                return LengthReply::Error(MatError::InvalidText(0));
             }
         }
     }
-    TextReply::Text(n)
+    LengthReply::Length(n)
 }
 
 // The bytes of a character by its first, which is not ASCII. No character of four has a byte, so that none is asked for.
@@ -163,23 +163,23 @@ fn put_export(text: &[u8], out: &mut [u8])
 }
 
 // Writes a UTF-8 text to the start of out, one byte a character.
-pub fn export_latin9(text: &[u8], out: &mut [u8]) -> TextReply
-    ensures { λ r. ⌜ WritesText (exportLatin9 (now (text .entry))) (now (out .entry)) r (now (out .exit)) ⌝ }
+pub fn export_latin9(text: &[u8], out: &mut [u8]) -> LengthReply
+    ensures { λ r. ⌜ Writes (exportLatin9 (now (text .entry))) (now (out .entry)) r (now (out .exit)) ⌝ }
 {
     match export_length(text) {
-        TextReply::Text(n) => {
+        LengthReply::Length(n) => {
             if out.len() < n {
-                return TextReply::Error(MatError::OutputTooShort(n as u64));
+                return LengthReply::Error(MatError::OutputTooShort(n as u64));
             }
             // A text with as many bytes as characters is ASCII.
             if n == text.len() {
                 copy_bytes(text, out, 0);
-                return TextReply::Text(n);
+                return LengthReply::Length(n);
             }
             put_export(text, out);
-            TextReply::Text(n)
+            LengthReply::Length(n)
         }
-        TextReply::Error(e) => TextReply::Error(e),
+        LengthReply::Error(e) => LengthReply::Error(e),
     }
 }
 
@@ -210,18 +210,18 @@ fn more_in(bytes: &[u8]) -> usize
 }
 
 // The length of the text of bytes for an output of so many bytes, or the refusal by 34. The length itself may not fit 64 bits.
-fn import_length(bytes: &[u8], room: usize) -> TextReply
-    ensures { λ r. ⌜ textReplyOf r ≡ mapResult length (importLatin9 (now (bytes .entry)) room) ⌝ }
+fn import_length(bytes: &[u8], room: usize) -> LengthReply
+    ensures { λ r. ⌜ lengthReplyOf r ≡ mapResult length (importLatin9 (now (bytes .entry)) room) ⌝ }
 {
     let more = more_in(bytes);
     if 0xFFFF_FFFF_FFFF_FFFF - bytes.len() < more {
-        return TextReply::Error(MatError::OutputTooShort(0xFFFF_FFFF_FFFF_FFFF));
+        return LengthReply::Error(MatError::OutputTooShort(0xFFFF_FFFF_FFFF_FFFF));
     }
     let n = bytes.len() + more;
     if room < n {
-        return TextReply::Error(MatError::OutputTooShort(n as u64));
+        return LengthReply::Error(MatError::OutputTooShort(n as u64));
     }
-    TextReply::Text(n)
+    LengthReply::Length(n)
 }
 
 // Writes the text of bytes to the start of out, which is long enough for it.
@@ -244,20 +244,20 @@ fn put_import(bytes: &[u8], points: &[u16], out: &mut [u8])
 }
 
 // Writes the UTF-8 text of bytes, a character each, to the start of text.
-pub fn import_latin9(bytes: &[u8], text: &mut [u8]) -> TextReply
-    ensures { λ r. ⌜ WritesText (importLatin9 (now (bytes .entry))) (now (text .entry)) r (now (text .exit)) ⌝ }
+pub fn import_latin9(bytes: &[u8], text: &mut [u8]) -> LengthReply
+    ensures { λ r. ⌜ Writes (importLatin9 (now (bytes .entry))) (now (text .entry)) r (now (text .exit)) ⌝ }
 {
     match import_length(bytes, text.len()) {
-        TextReply::Text(n) => {
+        LengthReply::Length(n) => {
             // Bytes that have a byte each are ASCII.
             if n == bytes.len() {
                 copy_bytes(bytes, text, 0);
-                return TextReply::Text(n);
+                return LengthReply::Length(n);
             }
             put_import(bytes, &CODE_POINTS, text);
-            TextReply::Text(n)
+            LengthReply::Length(n)
         }
-        TextReply::Error(e) => TextReply::Error(e),
+        LengthReply::Error(e) => LengthReply::Error(e),
     }
 }
 

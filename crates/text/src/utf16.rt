@@ -1,5 +1,7 @@
 // UTF-16 as the Unicode Standard, chapter 3, has it: one decoding step, and the UTF-8 text of code units.
 use crate::error::MatError;
+use crate::reply::LengthReply;
+use crate::utf8::TextLength;
 use crate::utf8::put_utf8;
 use crate::utf8::utf8_size;
 ghost use mathlib.Core.Path.{_≡_};
@@ -57,13 +59,8 @@ fn step_at(units: &[u16], i: usize) -> UnitStep
     unit_step(first, unit_at(units, i + 1), i + 1 < units.len())
 }
 
-// The length in bytes of the text of code units, or that a surrogate has no partner. A unit gives at most three bytes, and a slice
-// has fewer than 2^63, so the length fits.
-enum TextLength {
-    Bytes(usize),
-    Unpaired,
-}
-
+// The length of the text of code units, which are ill-formed where a surrogate has no partner. A unit gives at most three bytes, and a
+// slice has fewer than 2^63, so the length fits.
 fn text_length(units: &[u16]) -> TextLength
     ensures { λ r. ⌜ lengthOf r ≡ Option·map length (textOf (now (units .entry))) ⌝ }
 {
@@ -76,11 +73,11 @@ fn text_length(units: &[u16]) -> TextLength
                 i += n;
             }
             UnitStep::Unpaired => {
-                return TextLength::Unpaired;
+                return TextLength::IllFormed;
             }
         }
     }
-    TextLength::Bytes(bytes)
+    TextLength::Length(bytes)
 }
 
 // Writes the text of code units to the start of out, which is long enough for it.
@@ -103,24 +100,18 @@ fn put_text(units: &[u16], out: &mut [u8])
     }
 }
 
-// The length in bytes of a text that was written, or the refusal.
-pub enum TextReply {
-    Text(usize),
-    Error(MatError),
-}
-
 // Writes the UTF-8 text of code units to the start of text.
-pub fn decode_utf16(units: &[u16], text: &mut [u8]) -> TextReply
+pub fn decode_utf16(units: &[u16], text: &mut [u8]) -> LengthReply
     ensures { λ r. ⌜ DecodesUtf16 (now (units .entry)) (now (text .entry)) r (now (text .exit)) ⌝ }
 {
     match text_length(units) {
-        TextLength::Bytes(n) => {
+        TextLength::Length(n) => {
             if text.len() < n {
-                return TextReply::Error(MatError::OutputTooShort(n as u64));
+                return LengthReply::Error(MatError::OutputTooShort(n as u64));
             }
             put_text(units, text);
-            TextReply::Text(n)
+            LengthReply::Length(n)
         }
-        TextLength::Unpaired => TextReply::Error(MatError::UnpairedSurrogate(0)),
+        TextLength::IllFormed => LengthReply::Error(MatError::UnpairedSurrogate(0)),
     }
 }

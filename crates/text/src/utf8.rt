@@ -6,7 +6,7 @@ ghost use Prim.Native.Nat.{_+_, _/_, _≤_, _<_};
 ghost use lib.Dec.{leb, eqb};
 ghost use lib.ListN.{length, getD};
 ghost use Rattle.text.specs.Buffer.{same, put, Puts, Places};
-ghost use Rattle.text.specs.Replies.{validityPlace, CountsUnits, terminatedLength, terminatedOf, lossyLength, WritesLossy};
+ghost use Rattle.text.specs.Replies.{validityPlace, CountsUnits, terminatedLength, lengthOf, lossyLength, WritesLossy};
 ghost use Rattle.text.specs.Stages.{stepHas, hasSecond, wholeLength, isText};
 ghost use Rattle.text.specs.Unicode.{Below, isScalar, utf8, encoded};
 ghost use Rattle.text.specs.Utf8.{sequenceLength, secondRange, hasIn, stepAt, partsFrom, scalarsOf, firstIllFormed, lossy};
@@ -373,20 +373,21 @@ pub(crate) fn is_text_from(text: &[u8], start: usize) -> bool
     true
 }
 
-// The length of a text that ends before its first zero byte, or with all its bytes where there is none; or that it is ill-formed.
-pub enum TerminatedLength {
+// The length of a text in bytes, or that what it is read from is ill-formed.
+pub enum TextLength {
     Length(usize),
     IllFormed,
 }
 
-// Finds the end and looks at the text in one walk.
-pub fn terminated_length(bytes: &[u8]) -> TerminatedLength
-    ensures { λ r. ⌜ terminatedOf r ≡ terminatedLength (now (bytes .entry)) ⌝ }
+// The length of a text that ends before its first zero byte, or with all its bytes where there is none: its end is found as it is looked
+// at.
+pub fn terminated_length(bytes: &[u8]) -> TextLength
+    ensures { λ r. ⌜ lengthOf r ≡ terminatedLength (now (bytes .entry)) ⌝ }
 {
     let mut i: usize = 0;
     while i < bytes.len() {
         if bytes[i] == 0 {
-            return TerminatedLength::Length(i);
+            return TextLength::Length(i);
         }
         if bytes[i] < 0x80 {
             i += 1;
@@ -394,11 +395,11 @@ pub fn terminated_length(bytes: &[u8]) -> TerminatedLength
         }
         let size = whole_length(bytes, i);
         if size == 0 {
-            return TerminatedLength::IllFormed;
+            return TextLength::IllFormed;
         }
         i += size;
     }
-    TerminatedLength::Length(i)
+    TextLength::Length(i)
 }
 
 // The length of a repaired text and the number of ill-formed parts that were replaced, a genuine U+FFFD not among them; or that the

@@ -10,11 +10,11 @@ use lib.ListN.{length, set, length-append}
 use Rattle.text.specs.Buffer.{put, Puts, Places}
 use Rattle.text.specs.Result.{ok, error}
 use Rattle.text.specs.declared.error.MatError.the-variants.{LimitExceeded, OutputTooShort}
+use Rattle.text.specs.declared.reply.LengthReply.the-variants as lengthReply
 use Rattle.text.proofs.BufferLaws.{put-none, put-front, put-more, length-put, places-fits}
 use Rattle.text.proofs.ByteLaws.{stores}
 use Rattle.writer.specs.FileWrapper.{u32Bytes, u32s, nameHeap, classEntries, entry, zeroEntry, entriesFrom, region, regions, offsetsFrom, fileWrapper, buildMetadata}
 use Rattle.writer.specs.Replies.{BuildsMetadata}
-use Rattle.writer.specs.declared.string_object.LengthReply.the-variants as lengthReply
 use Rattle.writer.specs.declared.file_wrapper.Region.{Region}
 use Rattle.writer.specs.declared.file_wrapper.Region.the-variants.{SavedBlocks, Objects, Dependents}
 

@@ -1,15 +1,15 @@
--- What stands end to end stands where its offsets say: the regions of the metadata blob and their entries, and the payloads of arrays.
+-- What stands end to end stands where its offsets say: the regions of the metadata blob and their entries, strings, and the payloads of arrays.
 -- Assumes nothing.
 use mathlib.Core.Path.{_≡_, refl, sym, ap, _∙_}
-use mathlib.Core.List.{List, [], _∷_, _++_, append-assoc, flatMap, append-nil}
+use mathlib.Core.List.{List, [], _∷_, _++_, append-assoc, append-nil, map, flatMap}
 use Prim.Native.Nat.{ℕ, zero, suc, _+_, _-_, _*_, _≤_, _<_}
-use native.Mathlib.Nat.{zero-add, suc-add}
+use native.Mathlib.Nat.{add-zero, zero-add, suc-add}
 use native.Mathlib.Omega.{arith}
-use lib.ListN.{length, getD, take, drop, length-append}
+use lib.ListN.{length, getD, take, drop, length-append, length-map}
 use lib.Seq.{slice, take-at, drop-at, take-nil, drop-nil, take-take}
 use Rattle.writer.specs.Array.{Array, noArray, payload, payloads, payloadSpans}
 use Rattle.writer.specs.FileWrapper.{u32s, nameHeap, classEntries, entry, zeroEntry, entriesFrom, region, regions, offsetsFrom, fileWrapper}
-use Rattle.writer.specs.Spans.{offsetAt, endAt, stringAt}
+use Rattle.writer.specs.Spans.{offsetAt, endAt, stringAt, joined, spansFrom}
 use Rattle.writer.specs.declared.file_wrapper.Region.{Region}
 use Rattle.writer.specs.declared.file_wrapper.Region.the-variants.{SavedBlocks, Objects}
 use Rattle.writer.proofs.FileWrapperLaws.{length-u32s, entrySize, length-entries, entries-split, offsets-are, sizes}
@@ -129,16 +129,38 @@ module _ (n : ℕ) where
   unfolding regions
   normal-0 = rw (offsets-are n) at (file-regions n 3 (omega arith))
 
--- ---- payloads
+-- ---- strings, and so payloads
+
+pub joined-cons : (s : List ℕ) (ss : List (List ℕ)) → joined (s ∷ ss) ≡ s ++ joined ss
+unfolding flatMap
+joined-cons s ss = refl
+
+pub joined-append : (ss ts : List (List ℕ)) → joined (ss ++ ts) ≡ joined ss ++ joined ts
+unfolding flatMap
+joined-append [] ts = refl
+joined-append (s ∷ ss) ts = ap (λ (r : List ℕ). s ++ r) (joined-append ss ts) ∙ sym (append-assoc s (joined ss) (joined ts))
+
+pub length-joined : (ss ts : List (List ℕ)) → length (joined (ss ++ ts)) ≡ length (joined ss) + length (joined ts)
+length-joined ss ts = ap length (joined-append ss ts) ∙ length-append (joined ss) (joined ts)
+
+pub spans-append : (o : ℕ) (ss ts : List (List ℕ)) → spansFrom o (ss ++ ts) ≡ spansFrom o ss ++ spansFrom (o + length (joined ss)) ts
+unfolding spansFrom flatMap
+spans-append o [] ts = rw (add-zero o)
+spans-append o (s ∷ ss) ts =
+    let e : o + length s + length (joined ss) ≡ o + length (s ++ joined ss) = omega (arith, length-append s (joined ss)) in
+    ap (λ (r : List ℕ). o ∷ length s ∷ r) (spans-append (o + length s) ss ts ∙ rw e)
+
+pub length-spans : (o : ℕ) (ss : List (List ℕ)) → length (spansFrom o ss) ≡ 2 * length ss
+unfolding spansFrom
+length-spans o [] = refl
+length-spans o (s ∷ ss) = omega (arith, length-spans (o + length s) ss)
 
 pub length-payload-spans : (o : ℕ) (xs : List Array) → length (payloadSpans o xs) ≡ 2 * length xs
-unfolding payloadSpans
-length-payload-spans o [] = refl
-length-payload-spans o (a ∷ xs) = omega (arith, length-payload-spans (o + length (payload a)) xs)
+length-payload-spans o xs = length-spans o (map payload xs) ∙ ap (λ (n : ℕ). 2 * n) (length-map xs payload)
 
 span-of : (p : List ℕ) (o : ℕ) → length p ≡ o → (xs : List Array) (i : ℕ) → i < length xs
     → stringAt (p ++ payloads xs) (payloadSpans o xs) i ≡ payload (getD xs i noArray)
-unfolding payloads payloadSpans flatMap
+unfolding payloads spansFrom flatMap
 span-of p o h [] i l = absurd (omega arith)
 span-of p o h (a ∷ xs) zero l =
     ap (take (length (payload a))) (drop-at p (payload a ++ payloads xs) o h) ∙ take-at (payload a) (payloads xs) (length (payload a)) refl
@@ -155,7 +177,7 @@ payload-at xs i h = span-of [] 0 refl xs i h
 
 -- where the span of array j begins and ends: payloads stand end to end
 pub span-offset : (o : ℕ) (xs : List Array) (j : ℕ) → j < length xs → offsetAt (payloadSpans o xs) j ≡ o + length (payloads (take j xs))
-unfolding payloads payloadSpans flatMap
+unfolding payloads spansFrom flatMap
 span-offset o [] j h = absurd (omega arith)
 span-offset o (a ∷ xs) zero h = omega arith
 span-offset o (a ∷ xs) (suc j) h =
@@ -163,7 +185,7 @@ span-offset o (a ∷ xs) (suc j) h =
     rw k (span-offset (o + length (payload a)) xs j (omega arith) ∙ omega (arith, length-append (payload a) (payloads (take j xs))))
 
 pub span-end : (o : ℕ) (xs : List Array) (j : ℕ) → j < length xs → endAt (payloadSpans o xs) j ≡ o + length (payloads (take (suc j) xs))
-unfolding payloads payloadSpans flatMap
+unfolding payloads spansFrom flatMap
 span-end o [] j h = absurd (omega arith)
 span-end o (a ∷ xs) zero h = ap (λ (l : List ℕ). o + length l) (sym (append-nil (payload a)))
 span-end o (a ∷ xs) (suc j) h =

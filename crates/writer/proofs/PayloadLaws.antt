@@ -8,17 +8,19 @@ use borrow.Author.Tests.{le-leb, lt-leb}
 use lib.ListN.{length, set, length-set}
 use Rattle.text.specs.Buffer.{put, Places}
 use Rattle.text.specs.Errors.{failureOf}
-use Rattle.text.specs.Result.{Result, ok, error, mapResult, overwritten}
+use Rattle.text.specs.Replies.{lengthReplyOf}
+use Rattle.text.specs.Result.{Result, ok, error}
 use Rattle.text.specs.declared.error.MatError.{MatError}
 use Rattle.text.specs.declared.error.MatError.the-variants.{OutputTooShort}
+use Rattle.text.specs.declared.reply.LengthReply.{LengthReply}
+use Rattle.text.specs.declared.reply.LengthReply.the-variants as reply
 use Rattle.text.proofs.BufferLaws.{put-front, put-more, length-put, places-fits}
 use Rattle.text.proofs.ByteLaws.{stores}
+use Rattle.text.proofs.ReplyLaws.{writes, told-length, told-error}
 use Rattle.writer.specs.Array.{Array, stringWords, payload, arrayOf, encodePayload}
-use Rattle.writer.specs.Replies.{lengthReplyOf, measuredPayload, EncodesPayload}
+use Rattle.writer.specs.Replies.{measuredPayload, EncodesPayload}
 use Rattle.writer.specs.Spans.{stringsIn}
 use Rattle.writer.specs.Stages.{arrayIn, PayloadFits, StringsFit}
-use Rattle.writer.specs.declared.string_object.LengthReply.{LengthReply}
-use Rattle.writer.specs.declared.string_object.LengthReply.the-variants as reply
 use Rattle.writer.proofs.ArrayLaws.{length-payload, array-is, strings-inside, strings-well-formed}
 
 -- ---- writing: version and number of dimensions, dimensions, strings
@@ -66,55 +68,36 @@ module _ {dims text spans : List ℕ} (d : List ℕ) (f : PayloadFits dims text 
 
 -- ---- the public call
 
-comes : (dims text spans words : List ℕ) (m : Result (List ℕ)) {r : LengthReply} {words' : List ℕ} → encodePayload dims text spans (length words) ≡ m → lengthReplyOf r ≡ mapResult length m
-    → words' ≡ overwritten (λ w. w) m words → EncodesPayload dims text spans words r words'
-comes dims text spans words m e p q = record {
-  reply = p ∙ ap (mapResult length) (sym e);
-  buffer = q ∙ ap (λ (n : Result (List ℕ)). overwritten (λ w. w) n words) (sym e);
-}
+-- what measuring said of the array
+module _ (dims text spans : List ℕ) {x : LengthReply} (is : lengthReplyOf x ≡ measuredPayload dims text spans) where
+  pub measured-passed : {n : ℕ} → x ≡ reply.Length n → (arrayOf dims text spans ≡ ok (arrayIn dims text spans)) × (length (payload (arrayIn dims text spans)) ≡ n)
+  measured-passed g =
+      let t = told-length (λ (a : Array). length (payload a)) (arrayOf dims text spans) is g in
+      let k = array-is dims text spans (t .1 .0) in
+      (t .1 .0 ∙ ap ok k, ap (λ (a : Array). length (payload a)) (sym k) ∙ t .1 .1)
+
+  pub measured-failed : {e : MatError} → x ≡ reply.Error e → arrayOf dims text spans ≡ error (failureOf e)
+  measured-failed g = told-error (λ (a : Array). length (payload a)) (arrayOf dims text spans) is g
 
 module _ (dims text spans words : List ℕ) {x : LengthReply} (is : lengthReplyOf x ≡ measuredPayload dims text spans) where
-  -- what measuring said of the array
-  pub measured-passed : (m : Result Array) → arrayOf dims text spans ≡ m → {n : ℕ} → x ≡ reply.Length n
-      → (arrayOf dims text spans ≡ ok (arrayIn dims text spans)) × (length (payload (arrayIn dims text spans)) ≡ n)
-  measured-passed (ok a) e {n} g =
-      let k = array-is dims text spans e in
-      let h : mapResult (λ (a : Array). length (payload a)) (ok a) ≡ ok n = ap (mapResult (λ a. length (payload a))) (sym e) ∙ sym is ∙ ap lengthReplyOf g in
-      let l : length (payload a) ≡ n = cc in
-      (e ∙ ap ok k, ap (λ (a : Array). length (payload a)) (sym k) ∙ l)
-  measured-passed (error f) e {n} g =
-      let h : mapResult (λ (a : Array). length (payload a)) (error f) ≡ ok n = ap (mapResult (λ a. length (payload a))) (sym e) ∙ sym is ∙ ap lengthReplyOf g in
-      let z : _≡_ {A = ℕ} 0 1 = cc in
-      absurd (omega arith)
-
-  pub measured-failed : (m : Result Array) → arrayOf dims text spans ≡ m → {e : MatError} → x ≡ reply.Error e → arrayOf dims text spans ≡ error (failureOf e)
-  measured-failed (ok a) w {e} g =
-      let h : mapResult (λ (a : Array). length (payload a)) (ok a) ≡ error (failureOf e) = ap (mapResult (λ a. length (payload a))) (sym w) ∙ sym is ∙ ap lengthReplyOf g in
-      let z : _≡_ {A = ℕ} 0 1 = cc in
-      absurd (omega arith)
-  measured-failed (error f) w {e} g =
-      let h : mapResult (λ (a : Array). length (payload a)) (error f) ≡ error (failureOf e) = ap (mapResult (λ a. length (payload a))) (sym w) ∙ sym is ∙ ap lengthReplyOf g in
-      let k : f ≡ failureOf e = cc in
-      w ∙ ap error k
-
   pub encode-refused : {e : MatError} → x ≡ reply.Error e → EncodesPayload dims text spans words (reply.Error e) words
   unfolding encodePayload
-  encode-refused {e} g = comes dims text spans words (error (failureOf e)) (rw (measured-failed (arrayOf dims text spans) refl g)) refl refl
+  encode-refused {e} g = writes (encodePayload dims text spans) words (error (failureOf e)) (rw (measured-failed dims text spans is g)) refl refl
 
   module _ {n : ℕ} (g : x ≡ reply.Length n) where
     pub encode-fits : n ≤ length words → PayloadFits dims text spans (length words)
-    encode-fits h = let s = measured-passed (arrayOf dims text spans) refl g in record { passed = s .0; fits = omega arith }
+    encode-fits h = let s = measured-passed dims text spans is g in record { passed = s .0; fits = omega arith }
 
     pub encode-short : n < 2 ^ 64 → length words < n → EncodesPayload dims text spans words (reply.Error (OutputTooShort n)) words
     unfolding encodePayload
     encode-short b h =
-        let s = measured-passed (arrayOf dims text spans) refl g in
+        let s = measured-passed dims text spans is g in
         let p : min (length (payload (arrayIn dims text spans))) (2 ^ 64 - 1) ≡ n = omega arith in
-        comes dims text spans words (error (record { number = 34; place = n })) (rw (s .0) (simp (lt-leb (length (payload (arrayIn dims text spans))) (length words) (omega arith), p))) refl refl
+        writes (encodePayload dims text spans) words (error (record { number = 34; place = n })) (rw (s .0) (simp (lt-leb (length (payload (arrayIn dims text spans))) (length words) (omega arith), p))) refl refl
 
     pub encode-written : n ≤ length words → {words' : List ℕ} → words' ≡ put words 0 (payload (arrayIn dims text spans)) → EncodesPayload dims text spans words (reply.Length n) words'
     unfolding encodePayload
     encode-written h b =
-        let s = measured-passed (arrayOf dims text spans) refl g in
-        comes dims text spans words (ok (payload (arrayIn dims text spans))) (rw (s .0) (simp (le-leb (length (payload (arrayIn dims text spans))) (length words) (omega arith)))) (ap ok (sym (s .1)))
+        let s = measured-passed dims text spans is g in
+        writes (encodePayload dims text spans) words (ok (payload (arrayIn dims text spans))) (rw (s .0) (simp (le-leb (length (payload (arrayIn dims text spans))) (length words) (omega arith)))) (ap ok (sym (s .1)))
         (b ∙ put-front words (payload (arrayIn dims text spans)))

@@ -12,7 +12,7 @@ use Rattle.text.specs.Result.{Result, ok, check, checkOutput, _>>_, _>>=_}
 use Rattle.text.specs.Utf8.{unitsOf}
 use Rattle.text.specs.declared.convert.Product.{Product}
 use Rattle.text.specs.declared.convert.Product.the-variants.{Of, OverflowAt}
-use Rattle.writer.specs.Spans.{checkStrings}
+use Rattle.writer.specs.Spans.{joined, spansFrom, checkStrings}
 use Rattle.writer.specs.Words.{packed}
 
 -- dimensions, and strings in UTF-8
@@ -81,9 +81,8 @@ encodePayload dims text spans room = do
 
 -- "payloads end to end from word 0"
 unfoldable pub payloads : List Array → List ℕ
-payloads xs = flatMap payload xs
+payloads xs = joined (map payload xs)
 
 -- "the directory their pairs": offset and length of each payload, where the first begins at word o
-unfoldable pub payloadSpans : ℕ → List Array → List ℕ
-payloadSpans o [] = []
-payloadSpans o (a ∷ xs) = o ∷ length (payload a) ∷ payloadSpans (o + length (payload a)) xs
+abbrev pub payloadSpans : ℕ → List Array → List ℕ
+payloadSpans o xs = spansFrom o (map payload xs)

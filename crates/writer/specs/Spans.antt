@@ -2,7 +2,7 @@
 -- Assumes nothing.
 use Prim.Native.Nat.{ℕ, zero, suc, _+_, _*_, _/_, _%_}
 use mathlib.Core.Bool.{Bool, true, false}
-use mathlib.Core.List.{List, [], _∷_}
+use mathlib.Core.List.{List, [], _∷_, flatMap}
 use mathlib.Core.Option.{Option, some, none}
 use lib.Dec.{leb, eqb}
 use lib.ListN.{length, getD, take, drop}
@@ -33,6 +33,15 @@ stringsFrom text spans i (suc n) = stringAt text spans i ∷ stringsFrom text sp
 -- all strings of the spans
 abbrev pub stringsIn : List ℕ → List ℕ → List (List ℕ)
 stringsIn text spans = stringsFrom text spans 0 (length spans / 2)
+
+-- strings end to end
+abbrev pub joined : List (List ℕ) → List ℕ
+joined strings = flatMap (λ s. s) strings
+
+-- the spans of strings end to end, where the first begins at o
+unfoldable pub spansFrom : ℕ → List (List ℕ) → List ℕ
+spansFrom o [] = []
+spansFrom o (s ∷ ss) = o ∷ length s ∷ spansFrom (o + length s) ss
 
 -- there is a value
 abbrev pub isSome : {A : Type 0} → Option A → Bool

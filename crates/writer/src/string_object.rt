@@ -8,13 +8,15 @@ use crate::packing::put_strings;
 use text::convert::to_usize;
 use text::copy::copy_words;
 use text::error::MatError;
+use text::reply::LengthReply;
 ghost use mathlib.Core.Path.{_≡_};
 ghost use lib.ListN.{length};
 ghost use Rattle.text.specs.Buffer.{put};
+ghost use Rattle.text.specs.Replies.{lengthReplyOf};
 ghost use Rattle.writer.specs.Array.{payload};
 ghost use Rattle.writer.specs.FileWrapper.{isFileWrapper};
 ghost use Rattle.writer.specs.Metadata.{objectMetadata};
-ghost use Rattle.writer.specs.Replies.{lengthReplyOf, measuredPayload, EncodesPayload, BuildsMetadata};
+ghost use Rattle.writer.specs.Replies.{measuredPayload, EncodesPayload, BuildsMetadata};
 ghost use Rattle.writer.specs.Stages.{arrayIn, PayloadFits};
 
 // The first word of opaque metadata.
@@ -33,12 +35,6 @@ pub fn create_string_object_metadata(object_id: u32) -> [u32; 6]
     ensures { λ r. ⌜ r ≡ objectMetadata «object_id» ⌝ }
 {
     [MCOS_MAGIC_NUMBER, 2, 1, 1, object_id, 1]
-}
-
-// The length of what was written or would be, or the refusal.
-pub enum LengthReply {
-    Length(usize),
-    Error(MatError),
 }
 
 // Checks 30, 31 and 32 of writing an array, and the words of its payload.

@@ -1,4 +1,4 @@
--- `mcos::mcos_list_objects` meets its contract: a walk of its MIR, by hand. `blob` and `rows` go to `list_objects`, `count` and `place` to `put_objects`, each at its own lifetime, share and name, given up for good (`Passed.antt`).
+-- `mcos::mcos_list_objects` meets its contract: a walk of its MIR, by hand. `blob` and `rows` go to `list_objects`, `count` and `place` to `put_length`, each at its own lifetime, share and name, given up for good (`Passed.antt`).
 -- All that the proof knows of the callees is that they meet their contracts.
 -- Assumes nothing.
 use mathlib.Core.Path.{refl}
@@ -36,12 +36,13 @@ use denote.Triple.Call.{calls-at}
 use denote.Triple.Clauses.{Lasts, ensured, lasts}
 use denote.Triple.Table.{entered, cited}
 use denote.Triple.Walked.{says, Stays, walkOf, Walks, ends-at, walked, walk-meets}
-use Rattle.reader.specs.Replies.{objectsReplyOf, WritesObjects}
+use Rattle.text.specs.Replies.{lengthReplyOf}
+use Rattle.text.specs.declared.reply.LengthReply.{LengthReply}
+use Rattle.reader.specs.Replies.{WritesObjects}
 use Rattle.reader.specs.declared.objects.ObjectRow.{ObjectRow}
-use Rattle.reader.specs.declared.objects.ObjectsReply.{ObjectsReply}
 use Rattle.reader.proofs.objects.ObjectRow as T
-use Rattle.reader.proofs.objects.ObjectsReply as R
-use Rattle.reader.proofs.objects.ObjectsReply.Laws as R′
+use Rattle.text.proofs.reply.LengthReply as R
+use Rattle.text.proofs.reply.LengthReply.Laws as R′
 use Rattle.reader.proofs.objects.list_objects as list
 use Rattle.reader.proofs.objects.list_objects.Symbol as list-def
 use Rattle.reader.proofs.objects.list_objects.Symbol.{name as #list}
@@ -49,10 +50,10 @@ use Rattle.reader.proofs.objects.list_objects.Met as list-thm
 use Rattle.store.proofs.Passed.{all-passed, all-passed-go}
 use Rattle.mcos.specs.Exports.{Exports}
 use Rattle.mcos.proofs.ExportLaws.{told-list}
-use Rattle.mcos.proofs.put_objects as put
-use Rattle.mcos.proofs.put_objects.Symbol as put-def
-use Rattle.mcos.proofs.put_objects.Symbol.{name as #put}
-use Rattle.mcos.proofs.put_objects.Met as put-thm
+use Rattle.mcos.proofs.put_length as put
+use Rattle.mcos.proofs.put_length.Symbol as put-def
+use Rattle.mcos.proofs.put_length.Symbol.{name as #put}
+use Rattle.mcos.proofs.put_length.Met as put-thm
 use Rattle.mcos.proofs.mcos_list_objects.Key.{name as #export}
 use Rattle.mcos.proofs.mcos_list_objects as export
 use Rattle.mcos.proofs.mcos_list_objects.Statement as stated
@@ -109,19 +110,19 @@ module _ {M : Type 1} (𝓤 : URA M) (H : Heap 𝓤) (A : Atoms 𝓤) (W : Given
   abbrev Listed : Type 0
   Listed = Lasts list.ended κs-list to-rows
 
-  abbrev Told : ObjectsReply → Type 0
+  abbrev Told : LengthReply → Type 0
   Told n = Lasts put.ended κs-cells (n, (count, (place, tt)))
 
-  abbrev Writes : ObjectsReply → Listed → Type 0
+  abbrev Writes : LengthReply → Listed → Type 0
   Writes n ls = WritesObjects (blob .now) (rows .now) n (ls .1 .0)
 
-  abbrev Tells : (n : ObjectsReply) → ℕ → Told n → Type 0
-  Tells n r ts = Exports (λ x. x) (objectsReplyOf n) (count .now) (place .now) r (ts .1 .0) (ts .1 .1 .0)
+  abbrev Tells : (n : LengthReply) → ℕ → Told n → Type 0
+  Tells n r ts = Exports (λ x. x) (lengthReplyOf n) (count .now) (place .now) r (ts .1 .0) (ts .1 .1 .0)
 
   abbrev ListLasts : Listed → Item 𝓤
   ListLasts ls = ‵ (lasts list.ended κs-list to-rows ls)
 
-  abbrev CellLasts : (n : ObjectsReply) → Told n → Item 𝓤
+  abbrev CellLasts : (n : LengthReply) → Told n → Item 𝓤
   CellLasts n ts = ‵ (lasts put.ended κs-cells (n, (count, (place, tt))) ts)
 
   -- the tokens of the lifetimes, and what the parameters own
@@ -155,14 +156,14 @@ module _ {M : Type 1} (𝓤 : URA M) (H : Heap 𝓤) (A : Atoms 𝓤) (W : Given
       -- [what blob and rows own; what the cells own; their tokens; the cells' tokens]
       move ! (2 ∷ 0 ∷ []) $ join ! $ nothing ! $ move ! (1 ∷ 0 ∷ []) $ join ! $ frame ! $ move ! (1 ∷ 0 ∷ []) $ frame ! $ done !
 
-  abbrev to-put : ObjectsReply → Val → Put 𝓤 H A mem run .Ghost
+  abbrev to-put : LengthReply → Val → Put 𝓤 H A mem run .Ghost
   to-put n u = ((κs-cells, (q₃, (q₄, tt)), tt, (n, (count, (place, tt))), (u ∷ [], (v₃ ∷ [], (v₄ ∷ [], tt)))), tt)
 
-  ask-put : (n : ObjectsReply) (u : Val) → ent 𝓤 (⋆ 𝓤 H A (‵ (R.the-row .own n (u ∷ [])) ∷ (Toks ⊛ ‵ Cells) ∷ [])) (Put 𝓤 H A mem run .pre (to-put n u))
+  ask-put : (n : LengthReply) (u : Val) → ent 𝓤 (⋆ 𝓤 H A (‵ (R.the-row .own n (u ∷ [])) ∷ (Toks ⊛ ‵ Cells) ∷ [])) (Put 𝓤 H A mem run .pre (to-put n u))
   ask-put n u =
       qed W (‵ (R.the-row .own n (u ∷ [])) ∷ (Toks ⊛ ‵ Cells) ∷ []) ∵ move ! (1 ∷ []) $ split ! $ move ! (2 ∷ 1 ∷ []) $ fjoin ! $ move ! (1 ∷ 0 ∷ []) $ join ! $ frame ! $ done !
 
-  exits : (n : ObjectsReply) (ls : Listed) (r : ℕ) (w : Val) (ts : Told n) → Writes n ls → Tells n r ts
+  exits : (n : LengthReply) (ls : Listed) (r : ℕ) (w : Val) (ts : Told n) → Writes n ls → Tells n r ts
       → ent 𝓤 (⋆ 𝓤 H A (‵ (u32 .own r (w ∷ [])) ∷ Toks ∷ CellLasts n ts ∷ ListToks ∷ ListLasts ls ∷ [])) (Post w)
   exits n ls r w ts writes told =
       qed W (‵ (u32 .own r (w ∷ [])) ∷ Toks ∷ CellLasts n ts ∷ ListToks ∷ ListLasts ls ∷ []) ∵
@@ -184,7 +185,7 @@ module _ {M : Type 1} (𝓤 : URA M) (H : Heap 𝓤) (A : Atoms 𝓤) (W : Given
         -- [_9; …; _8; …; …; _0; …; the tokens; what the parameters own]
         move ! (20 ∷ 21 ∷ []) $ use2 W (raw (Listing 𝓤 H A mem run .pre to-list) ⊛ (Toks ⊛ ‵ Cells)) ask-list $ split ! $
         calls-at ! fm (Listing 𝓤 H A mem run) known-list to-list (and-then ! (load ! (from ! (stop !)) (look ! 18 refl)) (and-then ! (load ! (from ! (stop !)) (look ! 6 refl)) (no-more !))) (λ u.
-        use1 W (later (some (λ (n : ObjectsReply). (ListToks ⊛ ‵ (R.the-row .own n (u ∷ []))) ⊛ raw (ensured 𝓤 H A list.ended (list.clauses 𝓤 H A mem run) κs-list to-rows tt n)))) (id⊢ 𝓤 _) $ await ! tt $ pick ! (λ n.
+        use1 W (later (some (λ (n : LengthReply). (ListToks ⊛ ‵ (R.the-row .own n (u ∷ []))) ⊛ raw (ensured 𝓤 H A list.ended (list.clauses 𝓤 H A mem run) κs-list to-rows tt n)))) (id⊢ 𝓤 _) $ await ! tt $ pick ! (λ n.
         split ! $ move ! (1 ∷ []) $ use1 W (some (λ (ls : Listed). ListLasts ls ⊛ raw (fact 𝓤 (Writes n ls)))) (id⊢ 𝓤 _) $ pick ! (λ ls.
         split ! $ move ! (1 ∷ []) $ heard ! (Writes n ls) (λ writes. move ! (1 ∷ []) $ split ! $ move ! (1 ∷ []) $ peeks ! R.the-row (Is R.the-row) (shows 𝓤 H A R.the-row) n (u ∷ []) (λ is.
         -- [the reply; the tokens of blob and rows; their last values; those of the cells and what they own; _9; …; _8; …; …; _0; …]
@@ -221,4 +222,4 @@ mcos-list-objects-spec 𝓤 H 𝓜 𝓖 𝓡 =
     (tables 𝓤 H 𝓜 𝓡 code.env .C) (tables 𝓤 H 𝓜 𝓡 code.env .Λ) #export code.function (code.unfolded 𝓤 H 𝓜 𝓡)
     (export-meets 𝓤 H (𝓖 .A) (givenOf 𝓤 H 𝓜 𝓖) (𝓜 .mem) (𝓡 .run) (tablesOf 𝓤 H 𝓜 (tables 𝓤 H 𝓜 𝓡 code.env))
     (cited 𝓤 H (Listing 𝓤 H (𝓖 .A) (𝓜 .mem) (𝓡 .run)) 𝓜 𝓡 code.env #list list-def.routine code.calls-reader·objects·list-objects (list-thm.met 𝓤 H 𝓜 𝓖 𝓡))
-    (cited 𝓤 H (Put 𝓤 H (𝓖 .A) (𝓜 .mem) (𝓡 .run)) 𝓜 𝓡 code.env #put put-def.routine code.calls-mcos·put-objects (put-thm.met 𝓤 H 𝓜 𝓖 𝓡)))
+    (cited 𝓤 H (Put 𝓤 H (𝓖 .A) (𝓜 .mem) (𝓡 .run)) 𝓜 𝓡 code.env #put put-def.routine code.calls-mcos·put-length (put-thm.met 𝓤 H 𝓜 𝓖 𝓡)))

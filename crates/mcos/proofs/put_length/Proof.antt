@@ -1,7 +1,7 @@
 -- `mcos::put_length` meets its contract.
 -- Assumes nothing.
 use borrow.Author.Needs.{needs}
-use Rattle.writer.specs.Replies.{lengthReplyOf}
+use Rattle.text.specs.Replies.{lengthReplyOf}
 use Rattle.mcos.proofs.ExportLaws.{refused}
 use Rattle.mcos.proofs.put_length.Statement.{statement}
 use Rattle.mcos.proofs.put_length.Tie as tie

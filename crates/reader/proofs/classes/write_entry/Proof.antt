@@ -1,6 +1,6 @@
 -- `reader::classes::write_entry` meets its contract.
 -- Assumes nothing.
-use Rattle.reader.proofs.ClassLaws.{entry-outside, space-outside, entry-plain, entry-joined}
+use Rattle.reader.proofs.ClassLaws.{entry-refused, has-name, has-space, entry-plain, entry-joined}
 use borrow.Author.Needs.{needs}
 use Rattle.reader.proofs.classes.write_entry.Statement.{statement}
 use Rattle.reader.proofs.classes.write_entry.Tie as tie
@@ -8,4 +8,4 @@ use Rattle.reader.proofs.classes.write_entry.Tie as tie
 pub write-entry-spec : {M : Type 1} → statement M
 write-entry-spec =
     tie.close
-    (tie.spec (λ c. search needs) (λ c. search (entry-outside, needs)) (λ c. search needs) (λ c. search (space-outside, needs)) (λ c. search needs) (λ c κs. search needs) (λ c κs. search needs) (λ c. search needs) (λ c. search (entry-plain, needs)) (λ c. search needs) (λ c κs. search needs) (λ c κs. search needs) (λ c. search needs) (λ c. search (entry-joined, needs)))
+    (tie.spec (λ c κs. search needs) (λ c. search needs) (λ c. search (entry-refused, needs)) (λ c. search needs) (λ c. search needs) (λ c κs. search (has-name, needs)) (λ c κs. search needs) (λ c. search needs) (λ c. search (entry-plain, needs)) (λ c. search needs) (λ c κs. search (has-space, needs)) (λ c κs. search needs) (λ c. search needs) (λ c. search (entry-joined, needs)))

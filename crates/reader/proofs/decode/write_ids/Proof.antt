@@ -2,7 +2,7 @@
 -- Assumes nothing.
 use borrow.Author.Needs.{needs}
 use Rattle.reader.proofs.DecodeStringLaws.{ids-values, ids-fit}
-use Rattle.reader.proofs.PayloadLaws.{decode-refused, decode-short-text, decode-short-spans, decode-written}
+use Rattle.reader.proofs.PayloadLaws.{decode-refused, decode-short, decode-written}
 use Rattle.reader.proofs.decode.write_ids.Statement.{statement}
 use Rattle.reader.proofs.decode.write_ids.Tie as tie
 
@@ -12,10 +12,10 @@ write-ids-spec =
     (tie.spec
     (λ c κs. search needs)
     (λ c. search needs)
-    (λ c. search (decode-short-text, needs))
-    (λ c. search (ids-values, needs))
-    (λ c. search (ids-values, needs))
-    (λ c. search (decode-short-spans, ids-values, needs))
+    (λ c κs. search (ids-values, needs))
+    (λ c. search needs)
+    (λ c. search (decode-short, needs))
+    (λ c. search needs)
     (λ c κs. search (ids-fit, needs))
     (λ c. search needs)
     (λ c. search needs)

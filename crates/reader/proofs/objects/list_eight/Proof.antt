@@ -48,17 +48,17 @@ use denote.Triple.Spec.{Meets, tripleOf}
 use denote.Triple.Table.{entered, cited}
 use denote.Triple.Walked.{says, Stays, stay-none-slice, walkOf, goes-none-slice, Walks, ends-at, walked, walk-meets}
 use denote.Exit.{yes}
+use Rattle.text.specs.declared.reply.LengthReply.{LengthReply}
 use Rattle.reader.specs.ObjectStages.{blankRows, objectList}
 use Rattle.reader.specs.Replies.{WritesObjects}
 use Rattle.reader.specs.declared.objects.ObjectList.{ObjectList}
 use Rattle.reader.specs.declared.objects.ObjectRow.{ObjectRow}
-use Rattle.reader.specs.declared.objects.ObjectsReply.{ObjectsReply}
 use Rattle.reader.proofs.objects.ObjectRow as T
 use Rattle.reader.proofs.objects.ObjectRow.Laws as T′
 use Rattle.reader.proofs.objects.ObjectList as E
 use Rattle.reader.proofs.objects.ObjectList.Laws as E′
-use Rattle.reader.proofs.objects.ObjectsReply as R
-use Rattle.reader.proofs.objects.ObjectsReply.Laws as R′
+use Rattle.text.proofs.reply.LengthReply as R
+use Rattle.text.proofs.reply.LengthReply.Laws as R′
 use Rattle.reader.proofs.objects.blank_rows as blank
 use Rattle.reader.proofs.objects.blank_rows.Symbol as blank-def
 use Rattle.reader.proofs.objects.blank_rows.Symbol.{name as #blank}
@@ -162,14 +162,14 @@ module _ {M : Type 1} (𝓤 : URA M) (H : Heap 𝓤) (A : Atoms 𝓤) (W : Given
   said-blank : (r : List ObjectRow) → ent 𝓤 (ensured 𝓤 H A blank.ended (blank.clauses 𝓤 H A mem run) tt tt tt r) (fact 𝓤 (r ≡ blankRows))
   said-blank r = exE 𝓤 _ (λ ws. snd∗ 𝓤 (sem 𝓤 H A (lasts blank.ended tt tt ws)) (fact 𝓤 (r ≡ blankRows)))
 
-  abbrev to-pack : ObjectsReply → Val → List ObjectRow → Pack 𝓤 H A mem run .Ghost
+  abbrev to-pack : LengthReply → Val → List ObjectRow → Pack 𝓤 H A mem run .Ghost
   to-pack r w z = ((tt, tt, tt, (r, (z, tt)), (w ∷ [], (av z ∷ [], tt))), tt)
 
-  ask-pack : (r : ObjectsReply) (w : Val) (z : List ObjectRow) → Is R.the-row r (w ∷ []) → Is Arr8 z (av z ∷ []) → ent 𝓤 (sem 𝓤 H A ftrue) (Pack 𝓤 H A mem run .pre (to-pack r w z))
+  ask-pack : (r : LengthReply) (w : Val) (z : List ObjectRow) → Is R.the-row r (w ∷ []) → Is Arr8 z (av z ∷ []) → ent 𝓤 (sem 𝓤 H A ftrue) (Pack 𝓤 H A mem run .pre (to-pack r w z))
   ask-pack r w z r-is z-is =
       qed W (‵ ftrue ∷ []) ∵ nothing ! $ owned ! Arr8 (Is Arr8) (arr-makes 𝓤 H A W) z _ z-is $ fjoin ! $ owned ! R.the-row (Is R.the-row) (EL.makes R.the-type R′.the-plain 𝓤 H A) r _ r-is $ fjoin ! $ move ! (1 ∷ 0 ∷ []) $ join ! $ frame ! $ done !
 
-  said-pack : (r : ObjectsReply) (z : List ObjectRow) (e : ObjectList) → ent 𝓤 (ensured 𝓤 H A pack.ended (pack.clauses 𝓤 H A mem run) tt (r, (z, tt)) tt e) (fact 𝓤 (e ≡ objectList r z))
+  said-pack : (r : LengthReply) (z : List ObjectRow) (e : ObjectList) → ent 𝓤 (ensured 𝓤 H A pack.ended (pack.clauses 𝓤 H A mem run) tt (r, (z, tt)) tt e) (fact 𝓤 (e ≡ objectList r z))
   said-pack r z e = exE 𝓤 _ (λ ws. snd∗ 𝓤 (sem 𝓤 H A (lasts pack.ended tt (r, (z, tt)) ws)) (fact 𝓤 (e ≡ objectList r z)))
 
   -- the slice that is lent for ν, under the name δ
@@ -213,7 +213,7 @@ module _ {M : Type 1} (𝓤 : URA M) (H : Heap 𝓤) (A : Atoms 𝓤) (W : Given
         -- [the slice's; the lender's part; its token; _6 at 3; …; _3 at 9; …; what frees _2 at 11; _1; …; room for _0; …; blob's token; what blob owns]
         move ! (0 ∷ 2 ∷ 16 ∷ []) $ join ! $ join ! $ move ! (0 ∷ 15 ∷ []) $ use2 W (raw (Listing 𝓤 H A mem run .pre (to-list l₂ ν δ)) ⊛ ‵ Own) (ask-list l₂ ν δ) $ split ! $
         calls-at ! fm (Listing 𝓤 H A mem run) known-list (to-list l₂ ν δ) (and-then ! (load ! (from ! (stop !)) (look ! 12 refl)) (and-then ! (load ! (from ! (stop !)) (look ! 3 refl)) (no-more !))) (λ u′.
-        use1 W (later (some (λ (n : ObjectsReply). ((‵ (flft κ q) ⊛ ‵ (flft (ν ∷ []) fullShare) ⊛ ‵ ftrue) ⊛ ‵ (R.the-row .own n (u′ ∷ []))) ⊛ raw (ensured 𝓤 H A list.ended (list.clauses 𝓤 H A mem run) (κ, (ν ∷ [], tt)) (d, (x l₂ δ, tt)) tt n)))) (id⊢ 𝓤 _) $ await ! tt $ pick ! (λ n.
+        use1 W (later (some (λ (n : LengthReply). ((‵ (flft κ q) ⊛ ‵ (flft (ν ∷ []) fullShare) ⊛ ‵ ftrue) ⊛ ‵ (R.the-row .own n (u′ ∷ []))) ⊛ raw (ensured 𝓤 H A list.ended (list.clauses 𝓤 H A mem run) (κ, (ν ∷ [], tt)) (d, (x l₂ δ, tt)) tt n)))) (id⊢ 𝓤 _) $ await ! tt $ pick ! (λ n.
         split ! $ move ! (1 ∷ []) $ use1 W (some (λ (ws : Unit {0} × (List ObjectRow × Unit {0})). ‵ (lasts list.ended (κ, (ν ∷ [], tt)) (d, (x l₂ δ, tt)) ws) ⊛ raw (fact 𝓤 (WritesObjects bs blankRows n (ws .1 .0))))) (id⊢ 𝓤 _) $ pick ! (λ ws.
         split ! $ move ! (1 ∷ []) $ heard ! (WritesObjects bs blankRows n (ws .1 .0)) (λ writes. fsplit ! $ drop ! $ fsplit ! $ fsplit ! $ move ! (1 ∷ []) $ feqL ! (λ _.
         move ! (1 ∷ []) $ drop ! $ move ! (1 ∷ []) $ split ! $ move ! (1 ∷ []) $

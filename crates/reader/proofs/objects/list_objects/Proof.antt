@@ -50,19 +50,20 @@ use denote.Triple.Spec.{Meets, tripleOf}
 use denote.Triple.Table.{entered, cited}
 use denote.Triple.Walked.{says, Stays, stay-none-slice, stay-slice, walkOf, goes-none-slice, goes-slice, Walks, ends-at, walked, walk-meets}
 use denote.Exit.{yes}
+use Rattle.text.specs.Replies.{lengthReplyOf}
+use Rattle.text.specs.declared.reply.LengthReply.{LengthReply}
 use Rattle.reader.specs.Objects.{objectRows}
 use Rattle.reader.specs.ObjectStages.{allObjects, noRow, listingReplyOf, lastRow, countOf, Lists, ToNext, NextObject}
-use Rattle.reader.specs.Replies.{objectsReplyOf, WritesObjects}
+use Rattle.reader.specs.Replies.{WritesObjects}
 use Rattle.reader.specs.declared.objects.Listing.{Listing}
 use Rattle.reader.specs.declared.objects.ObjectRow.{ObjectRow}
-use Rattle.reader.specs.declared.objects.ObjectsReply.{ObjectsReply}
 use Rattle.reader.proofs.ListingLaws.{filled, length-filled, fill-turn, written, written-within, listed-to, listed-next, listed}
 use Rattle.reader.proofs.objects.ObjectRow as T
 use Rattle.reader.proofs.objects.ObjectRow.Laws as T′
 use Rattle.reader.proofs.objects.Listing as X
 use Rattle.reader.proofs.objects.Listing.Laws as X′
-use Rattle.reader.proofs.objects.ObjectsReply as R
-use Rattle.reader.proofs.objects.ObjectsReply.Laws as R′
+use Rattle.text.proofs.reply.LengthReply as R
+use Rattle.text.proofs.reply.LengthReply.Laws as R′
 use Rattle.reader.proofs.objects.start_listing as start
 use Rattle.reader.proofs.objects.start_listing.Symbol as start-def
 use Rattle.reader.proofs.objects.start_listing.Symbol.{name as #start}
@@ -161,7 +162,7 @@ module _ {M : Type 1} (𝓤 : URA M) (H : Heap 𝓤) (A : Atoms 𝓤) (W : Given
   abbrev Post : Val → SProp 𝓤
   Post = walkOf 𝓤 H A list.ended stayed (list.clauses 𝓤 H A mem run) .post (((κ, (κ′, tt)), (q, (q′, tt)), tt, a, vals), tt)
 
-  exits : (r : ObjectsReply) (w : Val) (zs : List ObjectRow) → Is R.the-row r (w ∷ []) → WritesObjects bs ys r zs → length zs ≡ length ys → Room T.the-row (length ys)
+  exits : (r : LengthReply) (w : Val) (zs : List ObjectRow) → Is R.the-row r (w ∷ []) → WritesObjects bs ys r zs → length zs ≡ length ys → Room T.the-row (length ys)
       → ent 𝓤 (⋆ 𝓤 H A (‵ (fobs γ (codedHoleys T.the-row .code (heres T.the-row zs))) ∷ ‵ (fbor κ′ (Held T.the-row (length zs) b o γ)) ∷ ‵ (flft κ′ q′) ∷ Tok ∷ ‵ Own ∷ [])) (Post w)
   exits r w zs is writes same room =
       qed W (‵ (fobs γ (codedHoleys T.the-row .code (heres T.the-row zs))) ∷ ‵ (fbor κ′ (Held T.the-row (length zs) b o γ)) ∷ ‵ (flft κ′ q′) ∷ Tok ∷ ‵ Own ∷ []) ∵
@@ -229,8 +230,8 @@ module _ {M : Type 1} (𝓤 : URA M) (H : Heap 𝓤) (A : Atoms 𝓤) (W : Given
   ask-reply y u is =
       qed W (‵ ftrue ∷ []) ∵ nothing ! $ owned ! X.the-row (Is X.the-row) (EL.makes X.the-type X′.the-plain 𝓤 H A) y _ is $ fjoin ! $ move ! (1 ∷ 0 ∷ []) $ join ! $ frame ! $ done !
 
-  said-reply : (y : Listing) (r : ObjectsReply) → ent 𝓤 (ensured 𝓤 H A reply.ended (reply.clauses 𝓤 H A mem run) tt (y, tt) tt r) (fact 𝓤 (objectsReplyOf r ≡ listingReplyOf y))
-  said-reply y r = exE 𝓤 _ (λ ws. snd∗ 𝓤 (sem 𝓤 H A (lasts reply.ended tt (y, tt) ws)) (fact 𝓤 (objectsReplyOf r ≡ listingReplyOf y)))
+  said-reply : (y : Listing) (r : LengthReply) → ent 𝓤 (ensured 𝓤 H A reply.ended (reply.clauses 𝓤 H A mem run) tt (y, tt) tt r) (fact 𝓤 (lengthReplyOf r ≡ listingReplyOf y))
+  said-reply y r = exE 𝓤 _ (λ ws. snd∗ 𝓤 (sem 𝓤 H A (lasts reply.ended tt (y, tt) ws)) (fact 𝓤 (lengthReplyOf r ≡ listingReplyOf y)))
 
   module _ (𝓣 : Tables 𝓤 H) (known-start : Triple 𝓤 (𝓣 .C #start) (Start 𝓤 H A mem run)) (known-count : Triple 𝓤 (𝓣 .C #count) (Count 𝓤 H A mem run)) (known-next : Triple 𝓤 (𝓣 .C #next) (Next 𝓤 H A mem run)) (known-last : Triple 𝓤 (𝓣 .C #last) (Last 𝓤 H A mem run)) (known-reply : Triple 𝓤 (𝓣 .C #reply) (Reply 𝓤 H A mem run)) (room : Room T.the-row (length ys)) where
     abbrev C : Calls 𝓤 H
@@ -385,8 +386,8 @@ module _ {M : Type 1} (𝓤 : URA M) (H : Heap 𝓤) (A : Atoms 𝓤) (W : Given
             rewrite ! 12 (λ (w : Bool). ‵ (fat fullShare tyBool l₇ 0 (vbool w))) no′ refl $ leaves-loop ! (load ! (from ! (stop !)) (look ! 12 refl)) $ exec ! C Λ En mir.t-6 (atRet En Post) $
             nothing ! $ use1 W (raw (Reply 𝓤 H A mem run .pre (to-reply (t .y) (t .u)))) (ask-reply (t .y) (t .u) (t .is)) $
             calls-at ! fm (Reply 𝓤 H A mem run) known-reply (to-reply (t .y) (t .u)) (and-then ! (load ! (from ! (stop !)) (look ! 21 refl)) (no-more !)) (λ w.
-            use1 W (later (some (λ (r : ObjectsReply). (‵ ftrue ⊛ ‵ (R.the-row .own r (w ∷ []))) ⊛ raw (ensured 𝓤 H A reply.ended (reply.clauses 𝓤 H A mem run) tt (t .y, tt) tt r)))) (id⊢ 𝓤 _) $ await ! tt $ pick ! (λ r.
-            split ! $ move ! (1 ∷ []) $ use1 W (raw (fact 𝓤 (objectsReplyOf r ≡ listingReplyOf (t .y)))) (said-reply (t .y) r) $ heard ! (objectsReplyOf r ≡ listingReplyOf (t .y)) (λ e. split ! $ drop ! $
+            use1 W (later (some (λ (r : LengthReply). (‵ ftrue ⊛ ‵ (R.the-row .own r (w ∷ []))) ⊛ raw (ensured 𝓤 H A reply.ended (reply.clauses 𝓤 H A mem run) tt (t .y, tt) tt r)))) (id⊢ 𝓤 _) $ await ! tt $ pick ! (λ r.
+            split ! $ move ! (1 ∷ []) $ use1 W (raw (fact 𝓤 (lengthReplyOf r ≡ listingReplyOf (t .y)))) (said-reply (t .y) r) $ heard ! (lengthReplyOf r ≡ listingReplyOf (t .y)) (λ e. split ! $ drop ! $
             facts ! R.the-row (Is R.the-row) (shows 𝓤 H A R.the-row) r (w ∷ []) (λ is.
             land ! (from ! (stop !)) (init ! 26 refl (EL.lawful R.the-type R′.the-laws 𝓤 H A W tt .typed r _ is .0)) $
             move ! (0 ∷ 3 ∷ 4 ∷ 5 ∷ []) $ closes-slice ! tt T.the-row ys (now-rows (t .i)) same b o $
@@ -405,7 +406,7 @@ module _ {M : Type 1} (𝓤 : URA M) (H : Heap 𝓤) (A : Atoms 𝓤) (W : Given
             same : length (now-rows (t .i)) ≡ length ys
             same = length-filled (allObjects bs) (t .i) ys (omega (arith, t .bound, n-all)) (omega (arith, t .bound, n-rows))
 
-            writes : (r : ObjectsReply) → objectsReplyOf r ≡ listingReplyOf (t .y) → WritesObjects bs ys r (now-rows (t .i))
+            writes : (r : LengthReply) → lengthReplyOf r ≡ listingReplyOf (t .y) → WritesObjects bs ys r (now-rows (t .i))
             writes r e = subst (λ (k : ℕ). WritesObjects bs ys r (now-rows k)) (sym at-end) (listed (t .lists) e)
 
         turns : (t : State) (w : Bool) → ltb (t .i) n ≡ w → Sq W (At t) (runs C Λ En mir.turn-1 (anyQ (Turned t)))

@@ -1,7 +1,7 @@
 -- `reader::saveobj::decode_string_saveobj` meets its contract.
 -- Assumes nothing.
 use borrow.Author.Needs.{needs}
-use Rattle.reader.proofs.PayloadLaws.{decode-refused, decode-values, decode-short-text, decode-short-spans, decode-fits, decode-written}
+use Rattle.reader.proofs.PayloadLaws.{decode-refused, decode-values, decode-short, decode-fits, decode-written}
 use Rattle.reader.proofs.saveobj.decode_string_saveobj.Statement.{statement}
 use Rattle.reader.proofs.saveobj.decode_string_saveobj.Tie as tie
 
@@ -11,10 +11,10 @@ decode-string-saveobj-spec =
     (tie.spec
     (λ c κs. search needs)
     (λ c. search needs)
-    (λ c. search (decode-short-text, needs))
-    (λ c. search (decode-values, needs))
-    (λ c. search (decode-values, needs))
-    (λ c. search (decode-short-spans, decode-values, needs))
+    (λ c κs. search (decode-values, needs))
+    (λ c. search needs)
+    (λ c. search (decode-short, needs))
+    (λ c. search needs)
     (λ c κs. search (decode-fits, needs))
     (λ c. search needs)
     (λ c. search needs)
