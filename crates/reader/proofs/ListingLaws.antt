@@ -27,14 +27,14 @@ use Rattle.reader.specs.declared.file_wrapper.FileWrapper.{FileWrapper}
 use Rattle.reader.specs.declared.file_wrapper.ParseReply.{ParseReply}
 use Rattle.reader.specs.declared.file_wrapper.ParseReply.the-variants as parse
 use Rattle.reader.specs.declared.objects.Cursors.{Cursors}
-use Rattle.reader.specs.declared.objects.Listing.{Listing}
-use Rattle.reader.specs.declared.objects.Listing.the-variants as listing
+use Rattle.reader.specs.declared.listing.Listing.{Listing}
+use Rattle.reader.specs.declared.listing.Listing.the-variants as listing
 use Rattle.reader.specs.declared.objects.ObjectReply.{ObjectReply}
 use Rattle.reader.specs.declared.objects.ObjectReply.the-variants as object
 use Rattle.reader.specs.declared.objects.ObjectRow.{ObjectRow}
 use Rattle.reader.specs.declared.records.ObjectRecord.{ObjectRecord}
-use Rattle.reader.specs.declared.objects.ObjectsReply.{ObjectsReply}
-use Rattle.reader.specs.declared.objects.ObjectsReply.the-variants as objects
+use Rattle.reader.specs.declared.listing.ObjectsReply.{ObjectsReply}
+use Rattle.reader.specs.declared.listing.ObjectsReply.the-variants as objects
 use Rattle.reader.proofs.NameLaws.{parsed}
 use Rattle.reader.proofs.ObjectLaws.{cursors-start}
 

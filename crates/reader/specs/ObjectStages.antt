@@ -20,13 +20,13 @@ use Rattle.reader.specs.declared.find.Looked.{Looked}
 use Rattle.reader.specs.declared.find.Walk.{Walk}
 use Rattle.reader.specs.declared.objects.BlockId.{BlockId}
 use Rattle.reader.specs.declared.objects.Cursors.{Cursors}
-use Rattle.reader.specs.declared.objects.Listing.{Listing}
-use Rattle.reader.specs.declared.objects.Listing.the-variants as listing
-use Rattle.reader.specs.declared.objects.ObjectList.{ObjectList}
+use Rattle.reader.specs.declared.listing.Listing.{Listing}
+use Rattle.reader.specs.declared.listing.Listing.the-variants as listing
+use Rattle.reader.specs.declared.listing.ObjectList.{ObjectList}
 use Rattle.reader.specs.declared.objects.ObjectReply.{ObjectReply}
 use Rattle.reader.specs.declared.objects.ObjectReply.the-variants as object
 use Rattle.reader.specs.declared.objects.ObjectRow.{ObjectRow}
-use Rattle.reader.specs.declared.objects.ObjectsReply.{ObjectsReply}
+use Rattle.reader.specs.declared.listing.ObjectsReply.{ObjectsReply}
 use Rattle.reader.specs.declared.properties.TriplesReply.{TriplesReply}
 use Rattle.reader.specs.declared.properties.TriplesReply.the-variants as triples
 use Rattle.reader.specs.declared.records.ObjectRecord.{ObjectRecord}

@@ -21,8 +21,8 @@ use Rattle.reader.specs.declared.find.FindReply.the-variants as find
 use Rattle.reader.specs.declared.names.NameReply.{NameReply}
 use Rattle.reader.specs.declared.names.NameReply.the-variants as name
 use Rattle.reader.specs.declared.objects.ObjectRow.{ObjectRow}
-use Rattle.reader.specs.declared.objects.ObjectsReply.{ObjectsReply}
-use Rattle.reader.specs.declared.objects.ObjectsReply.the-variants as objects
+use Rattle.reader.specs.declared.listing.ObjectsReply.{ObjectsReply}
+use Rattle.reader.specs.declared.listing.ObjectsReply.the-variants as objects
 use Rattle.reader.specs.declared.properties.PropertiesReply.{PropertiesReply}
 use Rattle.reader.specs.declared.properties.PropertiesReply.the-variants as properties
 use Rattle.reader.specs.declared.records.Triple.{Triple}

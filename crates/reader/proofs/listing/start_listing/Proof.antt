@@ -1,10 +1,10 @@
--- `reader::objects::start_listing` meets its contract.
+-- `reader::listing::start_listing` meets its contract.
 -- Assumes nothing.
 use Rattle.reader.proofs.ListingLaws.{start-refused, start-failed, start-short, start-passed}
 use Rattle.reader.proofs.NameLaws.{parsed}
 use borrow.Author.Needs.{needs}
-use Rattle.reader.proofs.objects.start_listing.Statement.{statement}
-use Rattle.reader.proofs.objects.start_listing.Tie as tie
+use Rattle.reader.proofs.listing.start_listing.Statement.{statement}
+use Rattle.reader.proofs.listing.start_listing.Tie as tie
 
 pub start-listing-spec : {M : Type 1} → statement M
 start-listing-spec =

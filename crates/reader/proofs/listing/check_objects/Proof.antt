@@ -1,10 +1,10 @@
--- `reader::objects::check_objects` meets its contract.
+-- `reader::listing::check_objects` meets its contract.
 -- Assumes nothing.
 use Prim.Native.Nat.{_-_}
 use Rattle.reader.proofs.ListingLaws.{Passing, passing-start, passing-fits, passing-inside, passing-turn, passing-stop, passing-last}
 use borrow.Author.Needs.{needs}
-use Rattle.reader.proofs.objects.check_objects.Statement.{statement}
-use Rattle.reader.proofs.objects.check_objects.Tie as tie
+use Rattle.reader.proofs.listing.check_objects.Statement.{statement}
+use Rattle.reader.proofs.listing.check_objects.Tie as tie
 
 abbrev Inv-loop : tie.InvT-loop
 Inv-loop blob w id₀ id = Passing blob w id

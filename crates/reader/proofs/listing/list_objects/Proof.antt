@@ -1,4 +1,4 @@
--- `reader::objects::list_objects` meets its contract: a walk of its MIR, by hand. The borrow of the rows is opened once, before the loop, and closed once, after it. In between the rows are the function's own: i of them are written, the others are as they were.
+-- `reader::listing::list_objects` meets its contract: a walk of its MIR, by hand. The borrow of the rows is opened once, before the loop, and closed once, after it. In between the rows are the function's own: i of them are written, the others are as they were.
 -- All that the proof knows of the callees is that they meet their contracts. `blob` is Copy: what it owns is had twice before each call, and one copy is kept. A listing owns only facts, so it is had for nothing at each call.
 -- Assumes nothing.
 use mathlib.Core.Path.{_≡_, refl, sym, _∙_, ap, subst}
@@ -53,41 +53,41 @@ use denote.Exit.{yes}
 use Rattle.reader.specs.Objects.{objectRows}
 use Rattle.reader.specs.ObjectStages.{allObjects, noRow, listingReplyOf, lastRow, countOf, Lists, ToNext, NextObject}
 use Rattle.reader.specs.Replies.{objectsReplyOf, WritesObjects}
-use Rattle.reader.specs.declared.objects.Listing.{Listing}
+use Rattle.reader.specs.declared.listing.Listing.{Listing}
 use Rattle.reader.specs.declared.objects.ObjectRow.{ObjectRow}
-use Rattle.reader.specs.declared.objects.ObjectsReply.{ObjectsReply}
+use Rattle.reader.specs.declared.listing.ObjectsReply.{ObjectsReply}
 use Rattle.reader.proofs.ListingLaws.{filled, length-filled, fill-turn, written, written-within, listed-to, listed-next, listed}
 use Rattle.reader.proofs.objects.ObjectRow as T
 use Rattle.reader.proofs.objects.ObjectRow.Laws as T′
-use Rattle.reader.proofs.objects.Listing as X
-use Rattle.reader.proofs.objects.Listing.Laws as X′
-use Rattle.reader.proofs.objects.ObjectsReply as R
-use Rattle.reader.proofs.objects.ObjectsReply.Laws as R′
-use Rattle.reader.proofs.objects.start_listing as start
-use Rattle.reader.proofs.objects.start_listing.Symbol as start-def
-use Rattle.reader.proofs.objects.start_listing.Symbol.{name as #start}
-use Rattle.reader.proofs.objects.start_listing.Met as start-thm
-use Rattle.reader.proofs.objects.count_of as count
-use Rattle.reader.proofs.objects.count_of.Symbol as count-def
-use Rattle.reader.proofs.objects.count_of.Symbol.{name as #count}
-use Rattle.reader.proofs.objects.count_of.Met as count-thm
-use Rattle.reader.proofs.objects.next_object as next
-use Rattle.reader.proofs.objects.next_object.Symbol as next-def
-use Rattle.reader.proofs.objects.next_object.Symbol.{name as #next}
-use Rattle.reader.proofs.objects.next_object.Met as next-thm
-use Rattle.reader.proofs.objects.last_row as last
-use Rattle.reader.proofs.objects.last_row.Symbol as last-def
-use Rattle.reader.proofs.objects.last_row.Symbol.{name as #last}
-use Rattle.reader.proofs.objects.last_row.Met as last-thm
-use Rattle.reader.proofs.objects.reply_of as reply
-use Rattle.reader.proofs.objects.reply_of.Symbol as reply-def
-use Rattle.reader.proofs.objects.reply_of.Symbol.{name as #reply}
-use Rattle.reader.proofs.objects.reply_of.Met as reply-thm
-use Rattle.reader.proofs.objects.list_objects.Key.{name as #list}
-use Rattle.reader.proofs.objects.list_objects as list
-use Rattle.reader.proofs.objects.list_objects.Statement as stated
-use Rattle.reader.proofs.objects.list_objects.Code as code
-use Rattle.reader.proofs.objects.list_objects.Code.Mir as mir
+use Rattle.reader.proofs.listing.Listing as X
+use Rattle.reader.proofs.listing.Listing.Laws as X′
+use Rattle.reader.proofs.listing.ObjectsReply as R
+use Rattle.reader.proofs.listing.ObjectsReply.Laws as R′
+use Rattle.reader.proofs.listing.start_listing as start
+use Rattle.reader.proofs.listing.start_listing.Symbol as start-def
+use Rattle.reader.proofs.listing.start_listing.Symbol.{name as #start}
+use Rattle.reader.proofs.listing.start_listing.Met as start-thm
+use Rattle.reader.proofs.listing.count_of as count
+use Rattle.reader.proofs.listing.count_of.Symbol as count-def
+use Rattle.reader.proofs.listing.count_of.Symbol.{name as #count}
+use Rattle.reader.proofs.listing.count_of.Met as count-thm
+use Rattle.reader.proofs.listing.next_object as next
+use Rattle.reader.proofs.listing.next_object.Symbol as next-def
+use Rattle.reader.proofs.listing.next_object.Symbol.{name as #next}
+use Rattle.reader.proofs.listing.next_object.Met as next-thm
+use Rattle.reader.proofs.listing.last_row as last
+use Rattle.reader.proofs.listing.last_row.Symbol as last-def
+use Rattle.reader.proofs.listing.last_row.Symbol.{name as #last}
+use Rattle.reader.proofs.listing.last_row.Met as last-thm
+use Rattle.reader.proofs.listing.reply_of as reply
+use Rattle.reader.proofs.listing.reply_of.Symbol as reply-def
+use Rattle.reader.proofs.listing.reply_of.Symbol.{name as #reply}
+use Rattle.reader.proofs.listing.reply_of.Met as reply-thm
+use Rattle.reader.proofs.listing.list_objects.Key.{name as #list}
+use Rattle.reader.proofs.listing.list_objects as list
+use Rattle.reader.proofs.listing.list_objects.Statement as stated
+use Rattle.reader.proofs.listing.list_objects.Code as code
+use Rattle.reader.proofs.listing.list_objects.Code.Mir as mir
 
 abbrev stayed : Stays (list.ended .signature .params) (list.ended .kept)
 stayed = (stay-none-slice (0 ∷ []) tt (plain (λ _. u8)) yes, (stay-slice (1 ∷ []) tt (plain (λ _. T.the-row)), tt))
@@ -459,8 +459,8 @@ list-objects-spec 𝓤 H 𝓜 𝓖 𝓡 =
     entered 𝓤 H (tripleOf 𝓤 H (𝓖 .A) list.signature (list.spec 𝓤 H (𝓖 .A) (𝓜 .mem) (𝓡 .run)))
     (tables 𝓤 H 𝓜 𝓡 code.env .C) (tables 𝓤 H 𝓜 𝓡 code.env .Λ) #list code.function (code.unfolded 𝓤 H 𝓜 𝓡)
     (list-meets 𝓤 H (𝓖 .A) (givenOf 𝓤 H 𝓜 𝓖) (𝓜 .mem) (𝓡 .run) (tablesOf 𝓤 H 𝓜 (tables 𝓤 H 𝓜 𝓡 code.env))
-    (cited 𝓤 H (Start 𝓤 H (𝓖 .A) (𝓜 .mem) (𝓡 .run)) 𝓜 𝓡 code.env #start start-def.routine code.calls-reader·objects·start-listing (start-thm.met 𝓤 H 𝓜 𝓖 𝓡))
-    (cited 𝓤 H (Count 𝓤 H (𝓖 .A) (𝓜 .mem) (𝓡 .run)) 𝓜 𝓡 code.env #count count-def.routine code.calls-reader·objects·count-of (count-thm.met 𝓤 H 𝓜 𝓖 𝓡))
-    (cited 𝓤 H (Next 𝓤 H (𝓖 .A) (𝓜 .mem) (𝓡 .run)) 𝓜 𝓡 code.env #next next-def.routine code.calls-reader·objects·next-object (next-thm.met 𝓤 H 𝓜 𝓖 𝓡))
-    (cited 𝓤 H (Last 𝓤 H (𝓖 .A) (𝓜 .mem) (𝓡 .run)) 𝓜 𝓡 code.env #last last-def.routine code.calls-reader·objects·last-row (last-thm.met 𝓤 H 𝓜 𝓖 𝓡))
-    (cited 𝓤 H (Reply 𝓤 H (𝓖 .A) (𝓜 .mem) (𝓡 .run)) 𝓜 𝓡 code.env #reply reply-def.routine code.calls-reader·objects·reply-of (reply-thm.met 𝓤 H 𝓜 𝓖 𝓡)))
+    (cited 𝓤 H (Start 𝓤 H (𝓖 .A) (𝓜 .mem) (𝓡 .run)) 𝓜 𝓡 code.env #start start-def.routine code.calls-reader·listing·start-listing (start-thm.met 𝓤 H 𝓜 𝓖 𝓡))
+    (cited 𝓤 H (Count 𝓤 H (𝓖 .A) (𝓜 .mem) (𝓡 .run)) 𝓜 𝓡 code.env #count count-def.routine code.calls-reader·listing·count-of (count-thm.met 𝓤 H 𝓜 𝓖 𝓡))
+    (cited 𝓤 H (Next 𝓤 H (𝓖 .A) (𝓜 .mem) (𝓡 .run)) 𝓜 𝓡 code.env #next next-def.routine code.calls-reader·listing·next-object (next-thm.met 𝓤 H 𝓜 𝓖 𝓡))
+    (cited 𝓤 H (Last 𝓤 H (𝓖 .A) (𝓜 .mem) (𝓡 .run)) 𝓜 𝓡 code.env #last last-def.routine code.calls-reader·listing·last-row (last-thm.met 𝓤 H 𝓜 𝓖 𝓡))
+    (cited 𝓤 H (Reply 𝓤 H (𝓖 .A) (𝓜 .mem) (𝓡 .run)) 𝓜 𝓡 code.env #reply reply-def.routine code.calls-reader·listing·reply-of (reply-thm.met 𝓤 H 𝓜 𝓖 𝓡)))

@@ -1,9 +1,9 @@
--- `reader::objects::next_object` meets its contract.
+-- `reader::listing::next_object` meets its contract.
 -- Assumes nothing.
 use Rattle.reader.proofs.ListingLaws.{next-refused, next-to, next-read, next-stopped}
 use borrow.Author.Needs.{needs}
-use Rattle.reader.proofs.objects.next_object.Statement.{statement}
-use Rattle.reader.proofs.objects.next_object.Tie as tie
+use Rattle.reader.proofs.listing.next_object.Statement.{statement}
+use Rattle.reader.proofs.listing.next_object.Tie as tie
 
 pub next-object-spec : {M : Type 1} → statement M
 next-object-spec =

@@ -1,4 +1,4 @@
--- `reader::objects::list_eight` meets its contract: a walk of its MIR, by hand. The local array is lent to `list_objects` as a slice, for a lifetime that is made for the call, and is taken back at the rows that the call left.
+-- `reader::listing::list_eight` meets its contract: a walk of its MIR, by hand. The local array is lent to `list_objects` as a slice, for a lifetime that is made for the call, and is taken back at the rows that the call left.
 -- All that the proof knows of the callees is that they meet their contracts.
 -- Assumes nothing.
 use mathlib.Core.Path.{_≡_, refl, sym, _∙_, ap, subst}
@@ -50,31 +50,31 @@ use denote.Triple.Walked.{says, Stays, stay-none-slice, walkOf, goes-none-slice,
 use denote.Exit.{yes}
 use Rattle.reader.specs.ObjectStages.{blankRows, objectList}
 use Rattle.reader.specs.Replies.{WritesObjects}
-use Rattle.reader.specs.declared.objects.ObjectList.{ObjectList}
+use Rattle.reader.specs.declared.listing.ObjectList.{ObjectList}
 use Rattle.reader.specs.declared.objects.ObjectRow.{ObjectRow}
-use Rattle.reader.specs.declared.objects.ObjectsReply.{ObjectsReply}
+use Rattle.reader.specs.declared.listing.ObjectsReply.{ObjectsReply}
 use Rattle.reader.proofs.objects.ObjectRow as T
 use Rattle.reader.proofs.objects.ObjectRow.Laws as T′
-use Rattle.reader.proofs.objects.ObjectList as E
-use Rattle.reader.proofs.objects.ObjectList.Laws as E′
-use Rattle.reader.proofs.objects.ObjectsReply as R
-use Rattle.reader.proofs.objects.ObjectsReply.Laws as R′
-use Rattle.reader.proofs.objects.blank_rows as blank
-use Rattle.reader.proofs.objects.blank_rows.Symbol as blank-def
-use Rattle.reader.proofs.objects.blank_rows.Symbol.{name as #blank}
-use Rattle.reader.proofs.objects.blank_rows.Met as blank-thm
-use Rattle.reader.proofs.objects.list_objects as list
-use Rattle.reader.proofs.objects.list_objects.Symbol as list-def
-use Rattle.reader.proofs.objects.list_objects.Symbol.{name as #list}
-use Rattle.reader.proofs.objects.list_objects.Met as list-thm
-use Rattle.reader.proofs.objects.object_list as pack
-use Rattle.reader.proofs.objects.object_list.Symbol as pack-def
-use Rattle.reader.proofs.objects.object_list.Symbol.{name as #pack}
-use Rattle.reader.proofs.objects.object_list.Met as pack-thm
-use Rattle.reader.proofs.objects.list_eight.Key.{name as #eight}
-use Rattle.reader.proofs.objects.list_eight as listed
-use Rattle.reader.proofs.objects.list_eight.Statement as stated
-use Rattle.reader.proofs.objects.list_eight.Code as code
+use Rattle.reader.proofs.listing.ObjectList as E
+use Rattle.reader.proofs.listing.ObjectList.Laws as E′
+use Rattle.reader.proofs.listing.ObjectsReply as R
+use Rattle.reader.proofs.listing.ObjectsReply.Laws as R′
+use Rattle.reader.proofs.listing.blank_rows as blank
+use Rattle.reader.proofs.listing.blank_rows.Symbol as blank-def
+use Rattle.reader.proofs.listing.blank_rows.Symbol.{name as #blank}
+use Rattle.reader.proofs.listing.blank_rows.Met as blank-thm
+use Rattle.reader.proofs.listing.list_objects as list
+use Rattle.reader.proofs.listing.list_objects.Symbol as list-def
+use Rattle.reader.proofs.listing.list_objects.Symbol.{name as #list}
+use Rattle.reader.proofs.listing.list_objects.Met as list-thm
+use Rattle.reader.proofs.listing.object_list as pack
+use Rattle.reader.proofs.listing.object_list.Symbol as pack-def
+use Rattle.reader.proofs.listing.object_list.Symbol.{name as #pack}
+use Rattle.reader.proofs.listing.object_list.Met as pack-thm
+use Rattle.reader.proofs.listing.list_eight.Key.{name as #eight}
+use Rattle.reader.proofs.listing.list_eight as listed
+use Rattle.reader.proofs.listing.list_eight.Statement as stated
+use Rattle.reader.proofs.listing.list_eight.Code as code
 
 abbrev stayed : Stays (listed.ended .signature .params) (listed.ended .kept)
 stayed = (stay-none-slice (0 ∷ []) tt (plain (λ _. u8)) yes, tt)
@@ -257,6 +257,6 @@ list-eight-spec 𝓤 H 𝓜 𝓖 𝓡 =
     entered 𝓤 H (tripleOf 𝓤 H (𝓖 .A) listed.signature (listed.spec 𝓤 H (𝓖 .A) (𝓜 .mem) (𝓡 .run)))
     (tables 𝓤 H 𝓜 𝓡 code.env .C) (tables 𝓤 H 𝓜 𝓡 code.env .Λ) #eight code.function (code.unfolded 𝓤 H 𝓜 𝓡)
     (eight-meets 𝓤 H (𝓖 .A) (givenOf 𝓤 H 𝓜 𝓖) (𝓜 .mem) (𝓡 .run) (tablesOf 𝓤 H 𝓜 (tables 𝓤 H 𝓜 𝓡 code.env))
-    (cited 𝓤 H (Blank 𝓤 H (𝓖 .A) (𝓜 .mem) (𝓡 .run)) 𝓜 𝓡 code.env #blank blank-def.routine code.calls-reader·objects·blank-rows (blank-thm.met 𝓤 H 𝓜 𝓖 𝓡))
-    (cited 𝓤 H (Listing 𝓤 H (𝓖 .A) (𝓜 .mem) (𝓡 .run)) 𝓜 𝓡 code.env #list list-def.routine code.calls-reader·objects·list-objects (list-thm.met 𝓤 H 𝓜 𝓖 𝓡))
-    (cited 𝓤 H (Pack 𝓤 H (𝓖 .A) (𝓜 .mem) (𝓡 .run)) 𝓜 𝓡 code.env #pack pack-def.routine code.calls-reader·objects·object-list (pack-thm.met 𝓤 H 𝓜 𝓖 𝓡)))
+    (cited 𝓤 H (Blank 𝓤 H (𝓖 .A) (𝓜 .mem) (𝓡 .run)) 𝓜 𝓡 code.env #blank blank-def.routine code.calls-reader·listing·blank-rows (blank-thm.met 𝓤 H 𝓜 𝓖 𝓡))
+    (cited 𝓤 H (Listing 𝓤 H (𝓖 .A) (𝓜 .mem) (𝓡 .run)) 𝓜 𝓡 code.env #list list-def.routine code.calls-reader·listing·list-objects (list-thm.met 𝓤 H 𝓜 𝓖 𝓡))
+    (cited 𝓤 H (Pack 𝓤 H (𝓖 .A) (𝓜 .mem) (𝓡 .run)) 𝓜 𝓡 code.env #pack pack-def.routine code.calls-reader·listing·object-list (pack-thm.met 𝓤 H 𝓜 𝓖 𝓡)))
