@@ -10,9 +10,9 @@ use reader::labels;
 use reader::labels::LabelReply;
 use reader::labels::Part;
 use reader::labels::Source;
+use reader::listing;
 use reader::names;
 use reader::names::NameReply;
-use reader::objects;
 use reader::objects::ObjectRow;
 use reader::opaque;
 use reader::opaque::OpaqueReply;
@@ -415,7 +415,7 @@ pub extern "C" fn mcos_list_objects(
 ) -> u32
     ensures { λ r. ⌜ ExportsList (λ x. x) (intoOutput (objectRows (now (blob .entry)))) (now (rows .entry)) (now (count .entry)) (now (place .entry)) r (now (rows .exit)) (now (count .exit)) (now (place .exit)) ⌝ }
 {
-    put_length(objects::list_objects(blob, rows), count, place)
+    put_length(listing::list_objects(blob, rows), count, place)
 }
 
 #[no_mangle]

@@ -12,10 +12,9 @@ use lib.ListN.{length}
 use Rattle.text.specs.Result.{Result, ok, error, check}
 use Rattle.text.proofs.TestLaws.{either}
 use Rattle.text.proofs.ResultLaws.{check-passed}
-use Rattle.reader.specs.Blocks.{blockEnd, nextBlock, blockAt, blocksCount, blocksFrom, blocks, HasBlock, IsCursor, cursorAt, behindBlock, IsRegion}
+use Rattle.reader.specs.Blocks.{blockEnd, nextBlock, blockAt, blocksCount, blocksFrom, blocks, HasBlock, IsRegion}
 use Rattle.reader.specs.Replies.{blockCountOf}
 use Rattle.reader.specs.declared.blocks.BlockCount.the-variants as count
-use Rattle.reader.specs.declared.blocks.Cursor.{Cursor}
 
 module _ (size : ℕ) (b : List ℕ) where
   pub next-after : (i : ℕ) → blockEnd size b i ≤ nextBlock size b i
@@ -124,41 +123,63 @@ entries-fit {size} {v} h k = le-trans (mul-le-mul-right v h) (omega arith)
 
 -- ---- the walk to a block
 
-pub behind-here : (start k : ℕ) (c : Cursor) → c .block ≤ k → c ≡ behindBlock start c k
-behind-here start k c h = simp (le-leb (c .block) k h)
-
-pub behind-start : (start k : ℕ) (c : Cursor) → k < c .block → record { block = 0; at = start } ≡ behindBlock start c k
-behind-start start k c h = simp (lt-leb (c .block) k h)
-
 -- the walk stands at block k, which is not past the one that is looked for
-pub record Walking (size : ℕ) (b : List ℕ) (start block k i : ℕ) : Type 0 where
-  pub bound : k ≤ block
+pub record Walking (size : ℕ) (b : List ℕ) (start n k i : ℕ) : Type 0 where
+  pub bound : k ≤ n
   pub is : i ≡ blockAt size b start k
 
-module _ {size : ℕ} {b : List ℕ} {start block : ℕ} (has : HasBlock size b start block) where
-  pub walk-start : {c r : Cursor} → IsCursor size b start c → r ≡ behindBlock start c block → Walking size b start block (r .block) (r .at)
+module _ {size : ℕ} {b : List ℕ} {start n : ℕ} (has : HasBlock size b start n) where
+  pub walk-start : Walking size b start n 0 start
   unfolding blockAt
-  walk-start {c} {r} i e =
-      either (leb (c .block) block)
-      (λ t. rw (simp t at e) (record { bound = leb-true (c .block) block t; is = i .is }))
-      (λ t. rw (simp t at e) (record { bound = omega arith; is = refl }))
+  walk-start = record { bound = omega arith; is = refl }
 
-  module _ {k i : ℕ} (w : Walking size b start block k i) where
-    here : k ≤ block → blockEnd size b i ≤ length b
+  module _ {k i : ℕ} (w : Walking size b start n k i) where
+    here : k ≤ n → blockEnd size b i ≤ length b
     here h = rw (w .is) (has .inside k h)
 
-    pub walk-read : k < block → i + 4 ≤ length b
+    pub walk-read : k < n → i + 4 ≤ length b
     walk-read h = omega (arith, here (omega arith))
 
-    pub walk-round : k < block → {l : ℕ} → l ≡ blockEnd size b i → l ≤ 16777216
+    pub walk-round : k < n → {l : ℕ} → l ≡ blockEnd size b i → l ≤ 16777216
     walk-round h e = omega (arith, here (omega arith), has .most)
 
-    pub walk-turn : k < block → {l r : ℕ} → l ≡ blockEnd size b i → r ≡ (l + 7) / 8 * 8 → Walking size b start block (k + 1) r
+    pub walk-turn : k < n → {l r : ℕ} → l ≡ blockEnd size b i → r ≡ (l + 7) / 8 * 8 → Walking size b start n (k + 1) r
     unfolding blockAt nextBlock
-    walk-turn h {l} {r} e n =
-        record { bound = omega arith; is = rw (n, e, w .is, add-one) }
+    walk-turn h {l} {r} e t =
+        record { bound = omega arith; is = rw (t, e, w .is, add-one) }
 
-    pub walk-last : block ≤ k → record { block = k; at = i } ≡ cursorAt size b start block
+    pub walk-last : n ≤ k → i ≡ blockAt size b start n
     walk-last h =
-        let z : k ≡ block = omega (arith, w .bound) in
+        let z : k ≡ n = omega (arith, w .bound) in
         rw (w .is, z)
+
+-- ---- blocks by their distance
+
+module _ (size : ℕ) (b : List ℕ) where
+  -- block k after block j is block j + k
+  pub block-sum : (i j k : ℕ) → blockAt size b (blockAt size b i j) k ≡ blockAt size b i (j + k)
+  unfolding blockAt
+  block-sum i j zero =
+      let z : j + 0 ≡ j = omega arith in
+      rw z
+  block-sum i j (suc k) =
+      let z : j + suc k ≡ suc (j + k) = omega arith in
+      rw z (ap (nextBlock size b) (block-sum i j k))
+
+  block-far : (i k : ℕ) → i + 4 * k ≤ blockAt size b i k
+  unfolding blockAt
+  block-far i zero = omega arith
+  block-far i (suc k) = omega (arith, block-far i k, next-past size b (blockAt size b i k))
+
+  -- a block has at least the 4 bytes of its count
+  pub blocks-few : (i e n : ℕ) → blocks size b i e ≡ ok n → 4 * n ≤ e - i
+  blocks-few i e zero w = omega arith
+  blocks-few i e (suc m) w = omega (arith, blocks-inside size b i e w m (omega arith), block-far i m)
+
+-- a region's blocks are whole from any of them on
+pub block-from : {size : ℕ} {b : List ℕ} {start m i : ℕ} → HasBlock size b start m → (j : ℕ) → i ≡ blockAt size b start j → {n : ℕ} → j + n ≡ m → HasBlock size b i n
+block-from {size} {b} {start} has j e s = record {
+  most = has .most;
+  small = has .small;
+  inside = λ k l. rw (e, block-sum size b start j k) (has .inside (j + k) (omega arith));
+}

@@ -221,11 +221,8 @@ module _ (b : List ℕ) {x : ParseReply} (e : parseReplyOf x ≡ opened b) where
       object-failed text {f} h = refused (objectClassText b id) text f (rw (reply-is parseReplyOf e g, reply-is checkedOf d h))
 
       module _ (h : k ≡ checked.Passed) where
-        pub object-inside : w .offsets .o2 + 24 * id + 24 ≤ length b
-        object-inside = let o = parsed b e g in omega (arith, o, o .object-records, id-below w id d h)
-
-        pub object-fits : w .offsets .o2 + 24 * id < 2 ^ 64
-        object-fits = omega (arith, object-inside, parsed b e g .most)
+        pub object-below : id < w .records
+        object-below = id-below w id d h
 
         pub object-written : {r : ObjectRecord} → r ≡ objectRecord b w id → {text text' : List ℕ} {y : NameReply}
             → WritesText (classOf b w (r .«class_id»)) text y text' → WritesText (objectClassText b id) text y text'

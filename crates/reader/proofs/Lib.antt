@@ -9,6 +9,7 @@ pub mod DecodeStringLaws
 pub mod EmptyBlobLaws
 pub mod FindLaws
 pub mod HeaderLaws
+pub mod IndexLaws
 pub mod LengthLaws
 pub mod LabelLaws
 pub mod LineLaws

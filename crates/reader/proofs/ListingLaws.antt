@@ -1,7 +1,7 @@
 -- The listing of objects: its checks, its steps, and the rows that it writes.
 -- Assumes nothing.
 use mathlib.Core.Path.{_≡_, refl, sym, ap, _∙_, subst}
-use mathlib.Core.Bool.{true, false}
+use mathlib.Core.Bool.{Bool, true, false}
 use mathlib.Core.List.{List, [], _∷_, _++_}
 use Prim.Native.Nat.{ℕ, zero, suc, _+_, _-_, _*_, _^_, _≤_, _<_, min}
 use native.Mathlib.Numerals.{add-one}
@@ -21,23 +21,32 @@ use Rattle.text.specs.declared.reply.LengthReply.{LengthReply}
 use Rattle.text.specs.declared.reply.LengthReply.the-variants as reply
 use Rattle.text.proofs.ResultLaws.{reply-is, seq-passed, seq-failed, bind-passed}
 use Rattle.text.proofs.TestLaws.{either}
-use Rattle.reader.specs.Objects.{checkBlock, objectRow, recordRow, objectOf, objectsFrom, objectRows}
-use Rattle.reader.specs.ObjectStages.{firstBlocks, AreCursors, ToObject, objectReplyOf, Stands, ReadsObject, checkObjects, allObjects, noRow, blankRows, listingReplyOf, lastRow, countOf, Listable, IsListing, Lists, ToNext, NextObject}
+use Rattle.reader.specs.Blocks.{blockEnd, blockAt}
+use Rattle.reader.specs.ListingStages.{checkObjects, objectsCheckOf, allObjects, PlanFor, Indexes, cursorAt, withCursor, firstCursors, AreCursors, ToBlock, listingReplyOf, countOf, Listable, IsListing, Lists, HasIndex, Starts, ToNext, NextObject}
+use Rattle.reader.specs.Objects.{regionStart, regionBlocks, checkBlock, objectRow, recordRow, objectOf, objectsFrom, objectRows, noRow, blankRows}
+use Rattle.reader.specs.ObjectStages.{blockOf, rowFrom}
 use Rattle.reader.specs.Opening.{opened, Opens}
 use Rattle.reader.specs.Queries.{objectRecord, intoOutput}
 use Rattle.reader.specs.Replies.{parseReplyOf, WritesObjects}
+use Rattle.reader.specs.Wire.{u32At}
 use Rattle.reader.specs.declared.file_wrapper.FileWrapper.{FileWrapper}
 use Rattle.reader.specs.declared.file_wrapper.ParseReply.{ParseReply}
 use Rattle.reader.specs.declared.file_wrapper.ParseReply.the-variants as parse
-use Rattle.reader.specs.declared.objects.Cursors.{Cursors}
-use Rattle.reader.specs.declared.objects.Listing.{Listing}
-use Rattle.reader.specs.declared.objects.Listing.the-variants as listing
-use Rattle.reader.specs.declared.objects.ObjectReply.{ObjectReply}
-use Rattle.reader.specs.declared.objects.ObjectReply.the-variants as object
+use Rattle.reader.specs.declared.listing.Cursor.{Cursor}
+use Rattle.reader.specs.declared.listing.Cursors.{Cursors}
+use Rattle.reader.specs.declared.listing.Listing.{Listing}
+use Rattle.reader.specs.declared.listing.Listing.the-variants as listing
+use Rattle.reader.specs.declared.listing.ObjectsCheck.{ObjectsCheck}
+use Rattle.reader.specs.declared.listing.ObjectsCheck.the-variants as objects-check
+use Rattle.reader.specs.declared.listing.Plan.{Plan}
+use Rattle.reader.specs.declared.listing.Step.{Step}
+use Rattle.reader.specs.declared.objects.BlockId.{BlockId}
 use Rattle.reader.specs.declared.objects.ObjectRow.{ObjectRow}
 use Rattle.reader.specs.declared.records.ObjectRecord.{ObjectRecord}
+use Rattle.reader.proofs.BlockLaws.{blocks-few}
+use Rattle.reader.proofs.IndexLaws.{region-with, cursors-start}
 use Rattle.reader.proofs.NameLaws.{parsed}
-use Rattle.reader.proofs.ObjectLaws.{cursors-start}
+use Rattle.reader.proofs.ObjectLaws.{region-has, row-none, block-below, row-found}
 
 -- ---- check 10 for each object
 
@@ -69,9 +78,6 @@ module _ {b : List ℕ} {w : FileWrapper} (o : Opens b w) where
   pub passing-fits : {id : ℕ} → id < w .records → id + 1 < 2 ^ 32
   passing-fits h = omega (arith, few)
 
-  pub passing-inside : {id : ℕ} → id < w .records → w .offsets .o2 + 24 * id + 24 ≤ length b
-  passing-inside h = omega (arith, o, o .object-records)
-
   module _ {id : ℕ} (p : Passing b w id) where
     module _ (h : id < w .records) where
       more : w .records - id ≡ suc (w .records - suc id)
@@ -85,15 +91,15 @@ module _ {b : List ℕ} {w : FileWrapper} (o : Opens b w) where
             let row : objectOf b w id ≡ ok (objectRow b w (objectRecord b w id)) = rw k in
             record { fits = passing-fits h; rest = rw add-one (rw more at (p .rest) ∙ check-yes b w id (w .records - suc id) row) }
 
-        pub passing-stop : {e : MatError} → y ≡ checked.Failed e → checkedOf (checked.Failed e) ≡ checkObjects b w 1 (w .records - 1)
+        pub passing-stop : {e : MatError} → y ≡ checked.Failed e → objectsCheckOf (objects-check.Failed e) ≡ checkObjects b w 1 (w .records - 1)
         unfolding recordRow
         passing-stop g =
             let k = rw is at (reply-is checkedOf said g) in
             sym (rw more at (p .rest) ∙ check-no b w id (w .records - suc id) (rw k))
 
-    pub passing-last : w .records ≤ id → checkedOf checked.Passed ≡ checkObjects b w 1 (w .records - 1)
+    pub passing-last : (falls : Bool) → w .records ≤ id → objectsCheckOf (objects-check.Passed falls) ≡ checkObjects b w 1 (w .records - 1)
     unfolding objectsFrom
-    passing-last h =
+    passing-last falls h =
         let z : w .records - id ≡ zero = omega arith in
         sym (rw z at (p .rest))
 
@@ -131,7 +137,7 @@ module _ (b : List ℕ) (w : FileWrapper) where
       let p = apart id n e in
       rw (p .1 .1 .2) (object-at (suc id) n (p .1 .1 .1) i k (omega arith) (omega arith))
 
--- ---- the first state
+-- ---- the listing of a blob
 
 module _ (b : List ℕ) (room : ℕ) {x : ParseReply} (e : parseReplyOf x ≡ opened b) where
   pub start-refused : {f : MatError} → x ≡ parse.Error f → Lists b room (listing.Refused f)
@@ -143,23 +149,28 @@ module _ (b : List ℕ) (room : ℕ) {x : ParseReply} (e : parseReplyOf x ≡ op
     unfolding objectRows
     rows-are = rw (reply-is parseReplyOf e g)
 
-    module _ {y : Checked} (said : checkedOf y ≡ checkObjects b w 1 (w .records - 1)) where
-      pub start-failed : {f : MatError} → y ≡ checked.Failed f → Lists b room (listing.Refused f)
+    pub start-few : w .«saveobj_blocks» + w .«normalobj_blocks» ≤ 16777216
+    start-few =
+        let o = parsed b e g in
+        omega (arith, o, blocks-few 12 b (w .offsets .o1) (w .offsets .o2) (w .«saveobj_blocks») (o .saveobj-blocks), blocks-few 12 b (w .offsets .o3) (w .offsets .o4) (w .«normalobj_blocks») (o .normalobj-blocks))
+
+    module _ {y : ObjectsCheck} (said : objectsCheckOf y ≡ checkObjects b w 1 (w .records - 1)) where
+      pub start-failed : {f : MatError} → y ≡ objects-check.Failed f → Lists b room (listing.Refused f)
       start-failed h =
-          let c = seq-failed (objectsFrom b w 1 (w .records - 1)) tt (reply-is checkedOf said h) in
+          let c = seq-failed (objectsFrom b w 1 (w .records - 1)) tt (reply-is objectsCheckOf said h) in
           record { reply = rw (rows-are, c); is = tt }
 
-      module _ (h : y ≡ checked.Passed) {n : ℕ} (k : n ≡ w .records - 1) where
-        come : objectsFrom b w 1 n ≡ ok (allObjects b)
+      module _ {falls : Bool} (h : y ≡ objects-check.Passed falls) {n : ℕ} (k : n ≡ w .records - 1) where
+        come : objectsFrom b w 1 (w .records - 1) ≡ ok (allObjects b)
         come =
-            let p = seq-passed (objectsFrom b w 1 (w .records - 1)) (ok tt) (reply-is checkedOf said h) in
-            rw (k, rows-are, p .1 .0)
+            let p = seq-passed (objectsFrom b w 1 (w .records - 1)) (ok tt) (reply-is objectsCheckOf said h) in
+            rw (rows-are, p .1 .0)
 
         rows-ok : objectRows b ≡ ok (allObjects b)
-        rows-ok = rows-are ∙ rw k at come
+        rows-ok = rows-are ∙ come
 
         count : length (allObjects b) ≡ n
-        count = length-objects b w 1 n come
+        count = length-objects b w 1 (w .records - 1) come ∙ sym k
 
         pub start-short : room < n → Lists b room (listing.Refused (OutputTooShort n))
         start-short l =
@@ -167,69 +178,86 @@ module _ (b : List ℕ) (room : ℕ) {x : ParseReply} (e : parseReplyOf x ≡ op
             let z : min n (2 ^ 64 - 1) ≡ n = omega (arith, few (parsed b e g)) in
             record { reply = rw (rows-ok, count, t, z); is = tt }
 
-        pub start-passed : n ≤ room → {cs : Cursors} → cs ≡ firstBlocks w → {row : ObjectRow} → Lists b room (listing.Objects w n cs row)
-        start-passed l c =
+        pub start-passed : n ≤ room → {p : Plan} → PlanFor w p → Lists b room (listing.Objects p n)
+        start-passed l {p} q =
             let t : leb n room ≡ true = le-leb n room l in
+            let z = sym (q .is) in
             record {
               reply = rw (rows-ok, count, t, count);
-              is = record { opens = parsed b e g; cursors = cursors-start c; count = k; rows = come };
+              is = (
+                record {
+                  plan = record { opens = rw z at (parsed b e g); plan = rw z at q };
+                  rows = rw z at come;
+                },
+                rw z at k,
+              );
             }
 
 -- ---- one object more
 
-module _ {b : List ℕ} {x : Listing} {i : ℕ} (to : ToNext b x i) where
-  pub next-refused : {e : MatError} → x ≡ listing.Refused e → NextObject b x i (listing.Refused e)
-  next-refused g =
-      let l : i < 0 = rw g at (to .below) in
-      absurd (omega arith)
+module _ {b index : List ℕ} {s : Step} {i : ℕ} (to : ToNext b index s i) where
+  pub next-opens : Opens b (s .plan .w)
+  next-opens = to .listable .plan .opens
 
-  module _ {w : FileWrapper} {n : ℕ} {cs : Cursors} {row : ObjectRow} (g : x ≡ listing.Objects w n cs row) where
-    here : Listable b w n cs
-    here = subst (IsListing b) g (to .is)
+  pub next-fits : i < 2 ^ 32
+  next-fits = omega (arith, few next-opens, to .below)
 
-    within : i < n
-    within = rw g at (to .below)
+  pub next-below : i + 1 < s .plan .w .records
+  next-below = to .below
 
-    pub next-to : ToObject b w cs (i + 1)
-    next-to = record { opens = here .opens; cursors = here .cursors; below = omega (arith, within, here .count) }
+  is-row : objectOf b (s .plan .w) (i + 1) ≡ ok (getD (allObjects b) i noRow)
+  is-row = object-at b (s .plan .w) 1 (s .plan .w .records - 1) (to .listable .rows) i (i + 1) (omega arith) (omega (arith, to .below))
 
-    is-row : objectOf b w (i + 1) ≡ ok (getD (allObjects b) i noRow)
-    is-row = object-at b w 1 n (here .rows) i (i + 1) (omega arith) within
+  module _ {r : ObjectRecord} (is : r ≡ objectRecord b (s .plan .w) (i + 1)) {k : BlockId} (chosen : k ≡ blockOf r) where
+    at-record : recordRow b (s .plan .w) r ≡ ok (getD (allObjects b) i noRow)
+    at-record = subst (λ (z : ObjectRecord). recordRow b (s .plan .w) z ≡ ok (getD (allObjects b) i noRow)) (sym is) is-row
 
-    module _ {y : ObjectReply} (read : ReadsObject b w (objectRecord b w (i + 1)) y) where
-      pub next-read : {row' : ObjectRow} {at : ℕ} {cs' : Cursors} → y ≡ object.Object row' at cs' → NextObject b x i (listing.Objects w n cs' row')
-      next-read {row'} f =
-          let z = sym (reply-is objectReplyOf (read .reply) f) ∙ is-row in
-          let s : row' ≡ getD (allObjects b) i noRow = cc in
-          record {
-            reply = rw g;
-            is = record {
-              opens = here .opens;
-              cursors = (subst (Stands b w (objectRecord b w (i + 1))) f (read .stands)) .1;
-              count = here .count;
-              rows = here .rows;
-            };
-            row = s;
-          }
+    passed : (checkBlock (s .plan .w) r ≡ ok tt) × (objectRow b (s .plan .w) r ≡ getD (allObjects b) i noRow)
+    unfolding recordRow
+    passed =
+        let p = seq-passed (checkBlock (s .plan .w) r) (ok (objectRow b (s .plan .w) r)) at-record in
+        let q = p .1 .1 in
+        let z : objectRow b (s .plan .w) r ≡ getD (allObjects b) i noRow = cc in
+        (p .1 .0, z)
 
-      pub next-stopped : {e : MatError} → y ≡ object.Error e → NextObject b x i (listing.Refused e)
-      next-stopped f =
-          let z = sym (reply-is objectReplyOf (read .reply) f) ∙ is-row in
-          let s : _≡_ {A = ℕ} 0 1 = cc in
-          absurd (omega arith)
+    pub next-none : k .id ≡ 0 → {row : ObjectRow} → row ≡ rowFrom r k 0 → NextObject b s i (record { plan = s .plan; cursors = s .cursors; row = row })
+    next-none z e = record { plan = refl; cursors = to .cursors; row = row-none b (s .plan .w) r (passed .0) chosen z e ∙ passed .1 }
 
--- ---- what a state holds
+    module _ (some : k .id ≡ 0 → ⊥) where
+      below-blocks : k .id < regionBlocks (s .plan .w) (k .region)
+      below-blocks = block-below b (s .plan .w) r (passed .0) chosen some
+
+      pub next-block : ToBlock b index (s .plan) (s .cursors) k
+      next-block = record { plan = to .listable .plan; indexes = to .indexes; cursors = to .cursors; below = below-blocks }
+
+      module _ {c : Cursor} (at : c ≡ cursorAt b (regionStart (s .plan .w) (k .region)) (k .id)) where
+        pub next-count : c .at + 4 ≤ length b
+        next-count =
+            let h : blockEnd 12 b (c .at) ≤ length b = rw at (region-has next-opens (k .region) below-blocks .inside (k .id) (omega arith)) in
+            omega (arith, h)
+
+        pub next-found : {m : ℕ} → m ≡ u32At b (c .at) → {row : ObjectRow} → row ≡ rowFrom r k m → {cs : Cursors} → cs ≡ withCursor (s .cursors) (k .region) c
+            → NextObject b s i (record { plan = s .plan; cursors = cs; row = row })
+        next-found {m} mm {row} e {cs} d =
+            let p : c .at ≡ blockAt 12 b (regionStart (s .plan .w) (k .region)) (k .id) = ap (λ (x : Cursor). x .at) at in
+            record {
+              plan = refl;
+              cursors = rw d (region-with (to .cursors) (k .region) (record { is = rw at }));
+              row = row-found b (s .plan .w) r (passed .0) chosen some p mm e ∙ passed .1;
+            }
+
+-- ---- what a listing holds
 
 module _ {x : Listing} where
-  module _ {w : FileWrapper} {n : ℕ} {cs : Cursors} {row : ObjectRow} (g : x ≡ listing.Objects w n cs row) where
+  module _ {p : Plan} {n : ℕ} (g : x ≡ listing.Objects p n) where
     pub count-listed : n ≡ countOf (listingReplyOf x)
     count-listed = rw g
 
     pub reply-listed : lengthReplyOf (reply.Length n) ≡ listingReplyOf x
     reply-listed = rw g
 
-    pub row-read : row ≡ lastRow x
-    row-read = rw g
+    pub step-first : (s : Step) → s .plan ≡ p → s .cursors ≡ firstCursors (p .w) → Starts x s
+    step-first s e c = rw g (e, c)
 
   module _ {e : MatError} (g : x ≡ listing.Refused e) where
     pub count-refused : 0 ≡ countOf (listingReplyOf x)
@@ -238,8 +266,8 @@ module _ {x : Listing} where
     pub reply-refused : lengthReplyOf (reply.Error e) ≡ listingReplyOf x
     reply-refused = rw g
 
-    pub row-none : {row : ObjectRow} → row ≡ noRow → row ≡ lastRow x
-    row-none h = rw (g, h)
+    pub step-none : (s : Step) → Starts x s
+    step-none s = rw g tt
 
 pub rows-blank : {r : ObjectRow} → r ≡ noRow → r ∷ r ∷ r ∷ r ∷ r ∷ r ∷ r ∷ r ∷ [] ≡ blankRows
 rows-blank e = rw e
@@ -284,18 +312,36 @@ module _ {A : Type 0} where
 
 -- ---- the public call
 
-listing-few : (b : List ℕ) (x : Listing) → IsListing b x → countOf (listingReplyOf x) ≤ 699050
-listing-few b (listing.Objects w n cs row) l = omega (arith, l .count, few (l .opens))
-listing-few b (listing.Refused e) l = omega arith
+-- what a listing's step holds from object to object; a refused one has none
+abbrev pub Stepping : List ℕ → Listing → Step → Type 0
+Stepping b (listing.Objects p n) s = (s .plan ≡ p) × AreCursors b (p .w) (s .cursors)
+Stepping b (listing.Refused e) s = Unit {0}
+
+pub listed-first : (b : List ℕ) (x : Listing) (s : Step) → Starts x s → Stepping b x s
+listed-first b (listing.Objects p n) s h = (h .0, cursors-start (h .1))
+listed-first b (listing.Refused e) s h = tt
+
+pub listed-next : {b : List ℕ} (x : Listing) {s s' : Step} {i : ℕ} → Stepping b x s → NextObject b s i s' → Stepping b x s'
+listed-next {b} (listing.Objects p n) {s} {s'} h t = (t .plan ∙ h .0, subst (λ (q : Plan). AreCursors b (q .w) (s' .cursors)) (h .0) (t .cursors))
+listed-next (listing.Refused e) h t = tt
+
+to-next : {b index : List ℕ} (x : Listing) {s : Step} {i : ℕ} → IsListing b x → HasIndex b x index → Stepping b x s → i < countOf (listingReplyOf x) → ToNext b index s i
+to-next {b} {index} (listing.Objects p n) {s} {i} l d h k =
+    let c : i + 1 < p .w .records = omega (arith, l .1) in
+    let q = sym (h .0) in
+    record {
+      listable = subst (Listable b) q (l .0);
+      indexes = subst (λ (x : Plan). Indexes b x index) q d;
+      cursors = subst (λ (x : Plan). AreCursors b (x .w) (s .cursors)) q (h .1);
+      below = subst (λ (x : Plan). i + 1 < x .w .records) q c;
+    }
+to-next (listing.Refused e) l d h k = absurd (omega arith)
 
 module _ {b : List ℕ} {room : ℕ} {x : Listing} (s : Lists b room x) where
-  pub listed-to : {i : ℕ} → i < written (objectRows b) room → ToNext b x i
-  listed-to {i} h =
-      let l : i < countOf (listingReplyOf x) = rw (s .reply) h in
-      record { is = s .is; below = l; few = omega (arith, listing-few b x (s .is)) }
-
-  pub listed-next : {i : ℕ} {x' : Listing} → NextObject b x i x' → Lists b room x'
-  listed-next n = record { reply = n .reply ∙ s .reply; is = n .is }
+  pub listed-to : {index : List ℕ} → HasIndex b x index → {t : Step} → Stepping b x t → {i : ℕ} → i < written (objectRows b) room → ToNext b index t i
+  listed-to d h {i} k =
+      let l : i < countOf (listingReplyOf x) = rw (s .reply) k in
+      to-next x (s .is) d h l
 
 pub listed : {b : List ℕ} {rows : List ObjectRow} {x : Listing} → Lists b (length rows) x → {r : LengthReply} → lengthReplyOf r ≡ listingReplyOf x
     → WritesObjects b rows r (filled (allObjects b) (written (objectRows b) (length rows)) rows)

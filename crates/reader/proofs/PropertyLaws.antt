@@ -21,7 +21,7 @@ use Rattle.text.proofs.BufferLaws.{length-over}
 use Rattle.text.proofs.ResultLaws.{reply-is, seq-passed, seq-failed}
 use Rattle.text.proofs.TestLaws.{either}
 use Rattle.reader.specs.Objects.{checkBlock, objectRow, triplesFrom, triplesOf, checkTriple, checkTriples, recordRow, recordTriples, objectTriples, rowOf}
-use Rattle.reader.specs.ObjectStages.{firstBlocks, ToObject, objectReplyOf, IsBlock, Stands, ReadsObject, TriplesIn, triplesReplyOf, PassedTriples, Triples, RecordTriples, ReadsTriples}
+use Rattle.reader.specs.ObjectStages.{objectReplyOf, IsBlock, Stands, ReadsObject, TriplesIn, triplesReplyOf, PassedTriples, Triples, RecordTriples, ReadsTriples}
 use Rattle.reader.specs.Opening.{opened, Opens}
 use Rattle.reader.specs.Queries.{intoOutput, objectRecord, checkObject}
 use Rattle.reader.specs.Replies.{parseReplyOf, WritesRows}
@@ -29,7 +29,6 @@ use Rattle.reader.specs.Wire.{tripleAt}
 use Rattle.reader.specs.declared.file_wrapper.FileWrapper.{FileWrapper}
 use Rattle.reader.specs.declared.file_wrapper.ParseReply.{ParseReply}
 use Rattle.reader.specs.declared.file_wrapper.ParseReply.the-variants as parse
-use Rattle.reader.specs.declared.objects.Cursors.{Cursors}
 use Rattle.reader.specs.declared.objects.ObjectReply.{ObjectReply}
 use Rattle.reader.specs.declared.objects.ObjectReply.the-variants as object
 use Rattle.reader.specs.declared.objects.ObjectRow.{ObjectRow}
@@ -38,7 +37,6 @@ use Rattle.reader.specs.declared.properties.TriplesReply.the-variants as
 use Rattle.reader.specs.declared.records.ObjectRecord.{ObjectRecord}
 use Rattle.reader.specs.declared.records.Triple.{Triple}
 use Rattle.reader.proofs.NameLaws.{in-output}
-use Rattle.reader.proofs.ObjectLaws.{cursors-start}
 
 -- ---- the checks of one triple
 
@@ -108,9 +106,6 @@ module _ {b : List ℕ} {w : FileWrapper} {start n : ℕ} where
 
 -- ---- the triples of an object that the blob has
 
-pub to-object : {b : List ℕ} {w : FileWrapper} {id : ℕ} → Opens b w → id < w .records → {cs : Cursors} → cs ≡ firstBlocks w → ToObject b w cs id
-to-object o h e = record { opens = o; cursors = cursors-start e; below = h }
-
 module _ {b : List ℕ} {w : FileWrapper} {r : ObjectRecord} (o : Opens b w) {x : ObjectReply} (read : ReadsObject b w r x) where
   pub record-refused : {f : MatError} → x ≡ object.Error f → RecordTriples b w r (triples.Error f)
   unfolding recordRow recordTriples
@@ -118,9 +113,9 @@ module _ {b : List ℕ} {w : FileWrapper} {r : ObjectRecord} (o : Opens b w) {x 
       let e = seq-failed (checkBlock w r) (objectRow b w r) (reply-is objectReplyOf (read .reply) g) in
       record { reply = rw e; are = tt }
 
-  module _ {row : ObjectRow} {at : ℕ} {cs : Cursors} (g : x ≡ object.Object row at cs) where
+  module _ {row : ObjectRow} {at : ℕ} (g : x ≡ object.Object row at) where
     block : IsBlock b w r (row .«property_count») at
-    block = (subst (Stands b w r) g (read .stands)) .0
+    block = subst (Stands b w r) g (read .stands)
 
     pub triples-inside : TriplesIn b (at + 4) (row .«property_count»)
     triples-inside = record { inside = block .inside; most = o .most }

@@ -9,7 +9,6 @@ use lib.Dec.{leb}
 use lib.ListN.{length}
 use Rattle.text.specs.Result.{Result, ok, check, _>>_}
 use Rattle.reader.specs.Wire.{u32At}
-use Rattle.reader.specs.declared.blocks.Cursor.{Cursor}
 
 -- the end of the block at i: its count and "that many triples"
 abbrev pub blockEnd : ℕ → List ℕ → ℕ → ℕ
@@ -44,18 +43,6 @@ pub record HasBlock (size : ℕ) (b : List ℕ) (start k : ℕ) : Type 0 where
   pub most : length b ≤ 16777216
   pub small : size ≤ 12
   pub inside : (j : ℕ) → j ≤ k → blockEnd size b (blockAt size b start j) ≤ length b
-
--- a cursor stands at the block that it names
-pub record IsCursor (size : ℕ) (b : List ℕ) (start : ℕ) (c : Cursor) : Type 0 where
-  pub is : c .at ≡ blockAt size b start (c .block)
-
--- the cursor at block k
-abbrev pub cursorAt : ℕ → List ℕ → ℕ → ℕ → Cursor
-cursorAt size b start k = record { block = k; at = blockAt size b start k }
-
--- the cursor, or the region's start where the cursor is past block k
-abbrev pub behindBlock : ℕ → Cursor → ℕ → Cursor
-behindBlock start c k = cond (leb (c .block) k) c (record { block = 0; at = start })
 
 -- the bytes from i up to e are a region of the blob, and entries are small enough for its sums
 pub record IsRegion (b : List ℕ) (i e size : ℕ) : Type 0 where

@@ -5,6 +5,7 @@ pub mod Decode
 pub mod DecodeStages
 pub mod Labels
 pub mod Lines
+pub mod ListingStages
 pub mod Names
 pub mod ObjectStages
 pub mod Objects

@@ -4,26 +4,19 @@ use Prim.Native.Nat.{ℕ, suc, _+_, _-_, _*_, _≤_, _<_}
 use mathlib.Core.Path.{_≡_}
 use mathlib.Core.Bool.{Bool, false, cond, _&&_}
 use mathlib.Core.List.{List, [], _∷_}
-use lib.Dec.{eqb, leb, ltb}
+use lib.Dec.{leb, ltb}
 use lib.ListN.{length, getD}
 use Rattle.text.specs.Buffer.{same}
 use Rattle.text.specs.Errors.{failureOf}
-use Rattle.text.specs.Result.{Result, ok, error, mapResult, _>>_, valuesOf}
-use Rattle.text.specs.declared.reply.LengthReply.{LengthReply}
-use Rattle.reader.specs.Blocks.{IsCursor}
+use Rattle.text.specs.Result.{Result, ok, error}
 use Rattle.reader.specs.Names.{Standing}
-use Rattle.reader.specs.Objects.{regionOf, blockIdOf, regionBlocks, blockStart, recordRow, objectsFrom, objectRows, triplesFrom, checkTriples, recordTriples, objectTriples}
+use Rattle.reader.specs.Objects.{regionOf, blockIdOf, blockStart, recordRow, triplesFrom, checkTriples, recordTriples, objectTriples}
 use Rattle.reader.specs.Opening.{Opens}
-use Rattle.reader.specs.Queries.{intoOutput, shown}
-use Rattle.reader.specs.declared.blocks.Cursor.{Cursor}
+use Rattle.reader.specs.Queries.{shown}
 use Rattle.reader.specs.declared.file_wrapper.FileWrapper.{FileWrapper}
 use Rattle.reader.specs.declared.find.Looked.{Looked}
 use Rattle.reader.specs.declared.find.Walk.{Walk}
 use Rattle.reader.specs.declared.objects.BlockId.{BlockId}
-use Rattle.reader.specs.declared.objects.Cursors.{Cursors}
-use Rattle.reader.specs.declared.objects.Listing.{Listing}
-use Rattle.reader.specs.declared.objects.Listing.the-variants as listing
-use Rattle.reader.specs.declared.objects.ObjectList.{ObjectList}
 use Rattle.reader.specs.declared.objects.ObjectReply.{ObjectReply}
 use Rattle.reader.specs.declared.objects.ObjectReply.the-variants as object
 use Rattle.reader.specs.declared.objects.ObjectRow.{ObjectRow}
@@ -42,41 +35,9 @@ blockOf r = record { region = regionOf r; id = blockIdOf r }
 abbrev pub rowFrom : ObjectRecord → BlockId → ℕ → ObjectRow
 rowFrom r k n = record { «class_id» = r .«class_id»; region = k .region; «block_id» = k .id; «property_count» = n }
 
--- the cursor of region g, "0 saved, 1 normal"
-abbrev pub cursorOf : Cursors → ℕ → Cursor
-cursorOf cs g = cond (eqb g 0) (cs .saveobj) (cs .normalobj)
-
--- the cursors with that of region g moved to c
-abbrev pub withCursor : Cursors → ℕ → Cursor → Cursors
-withCursor cs g c = cond (eqb g 0) (record { saveobj = c; normalobj = cs .normalobj }) (record { saveobj = cs .saveobj; normalobj = c })
-
--- before any block is looked for, each cursor stands at block 0 of its region
-abbrev pub firstBlocks : FileWrapper → Cursors
-firstBlocks w = record {
-  saveobj = record { block = 0; at = w .offsets .o1 };
-  normalobj = record { block = 0; at = w .offsets .o3 };
-}
-
--- each cursor stands at the block of its region that it names
-pub record AreCursors (b : List ℕ) (w : FileWrapper) (cs : Cursors) : Type 0 where
-  pub saveobj : IsCursor 12 b (w .offsets .o1) (cs .saveobj)
-  pub normalobj : IsCursor 12 b (w .offsets .o3) (cs .normalobj)
-
--- the blob is open, its region has this block, and the cursors are its own
-pub record ToBlock (b : List ℕ) (w : FileWrapper) (cs : Cursors) (k : BlockId) : Type 0 where
-  pub opens : Opens b w
-  pub cursors : AreCursors b w cs
-  pub below : k .id < regionBlocks w (k .region)
-
--- the blob is open, has a record of this id, and the cursors are its own
-pub record ToObject (b : List ℕ) (w : FileWrapper) (cs : Cursors) (id : ℕ) : Type 0 where
-  pub opens : Opens b w
-  pub cursors : AreCursors b w cs
-  pub below : id < w .records
-
 -- an object's row, or the refusal
 abbrev pub objectReplyOf : ObjectReply → Result ObjectRow
-objectReplyOf (object.Object row at cs) = ok row
+objectReplyOf (object.Object row at) = ok row
 objectReplyOf (object.Error e) = error (failureOf e)
 
 -- the block of an object's record begins at this byte and is whole
@@ -86,79 +47,13 @@ pub record IsBlock (b : List ℕ) (w : FileWrapper) (r : ObjectRecord) (n at : �
 
 -- what the reply for an object carries beside its row
 abbrev pub Stands : List ℕ → FileWrapper → ObjectRecord → ObjectReply → Type 0
-Stands b w r (object.Object row at cs) = IsBlock b w r (row .«property_count») at × AreCursors b w cs
+Stands b w r (object.Object row at) = IsBlock b w r (row .«property_count») at
 Stands b w r (object.Error e) = Unit {0}
 
 -- what reading an object by its record replies, and where its block stands
 pub record ReadsObject (b : List ℕ) (w : FileWrapper) (r : ObjectRecord) (x : ObjectReply) : Type 0 where
   pub reply : objectReplyOf x ≡ recordRow b w r
   pub stands : Stands b w r x
-
--- ---- the listing
-
--- check 10 for n objects from id on
-abbrev pub checkObjects : List ℕ → FileWrapper → ℕ → ℕ → Result (Unit {0})
-checkObjects b w id n = objectsFrom b w id n >> ok tt
-
--- the rows of a blob whose listing is accepted
-abbrev pub allObjects : List ℕ → List ObjectRow
-allObjects b = valuesOf (objectRows b)
-
--- a row that was not written, and what stands for a row where there is none
-abbrev pub noRow : ObjectRow
-noRow = record { «class_id» = 0; region = 0; «block_id» = 0; «property_count» = 0 }
-
--- eight rows before a listing
-abbrev pub blankRows : List ObjectRow
-blankRows = noRow ∷ noRow ∷ noRow ∷ noRow ∷ noRow ∷ noRow ∷ noRow ∷ noRow ∷ []
-
--- the listing by value: its reply and its rows
-abbrev pub objectList : LengthReply → List ObjectRow → ObjectList
-objectList r rows = record { reply = r; rows = rows }
-
--- how many objects a listing has, or the refusal
-abbrev pub listingReplyOf : Listing → Result ℕ
-listingReplyOf (listing.Objects w n cs row) = ok n
-listingReplyOf (listing.Refused e) = error (failureOf e)
-
--- the row of the object that was read last
-abbrev pub lastRow : Listing → ObjectRow
-lastRow (listing.Objects w n cs row) = row
-lastRow (listing.Refused e) = noRow
-
--- how many rows a reply leaves to be written
-abbrev pub countOf : Result ℕ → ℕ
-countOf (ok n) = n
-countOf (error e) = 0
-
--- the blob is open, its n objects pass check 10, and the cursors are its own
-pub record Listable (b : List ℕ) (w : FileWrapper) (n : ℕ) (cs : Cursors) : Type 0 where
-  pub opens : Opens b w
-  pub cursors : AreCursors b w cs
-  pub count : n ≡ w .records - 1
-  pub rows : objectsFrom b w 1 n ≡ ok (allObjects b)
-
--- what a listing carries from one object to the next belongs to the blob; a refused one carries nothing
-abbrev pub IsListing : List ℕ → Listing → Type 0
-IsListing b (listing.Objects w n cs row) = Listable b w n cs
-IsListing b (listing.Refused e) = Unit {0}
-
--- the listing of a blob for so many rows
-pub record Lists (b : List ℕ) (room : ℕ) (x : Listing) : Type 0 where
-  pub reply : listingReplyOf x ≡ mapResult length (intoOutput (objectRows b) room)
-  pub is : IsListing b x
-
--- object i is one of the listing's, which are few: a blob has at most 16777216 bytes
-pub record ToNext (b : List ℕ) (x : Listing) (i : ℕ) : Type 0 where
-  pub is : IsListing b x
-  pub below : i < countOf (listingReplyOf x)
-  pub few : i < 16777216
-
--- the same listing, with object i read
-pub record NextObject (b : List ℕ) (x : Listing) (i : ℕ) (x' : Listing) : Type 0 where
-  pub reply : listingReplyOf x' ≡ listingReplyOf x
-  pub is : IsListing b x'
-  pub row : lastRow x' ≡ getD (allObjects b) i noRow
 
 -- ---- the triples of an object
 

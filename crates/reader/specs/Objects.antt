@@ -77,6 +77,14 @@ objectRows b = do
   w ← opened b
   objectsFrom b w 1 (w .records - 1)
 
+-- a row that was not written
+abbrev pub noRow : ObjectRow
+noRow = record { «class_id» = 0; region = 0; «block_id» = 0; «property_count» = 0 }
+
+-- eight rows before a listing
+abbrev pub blankRows : List ObjectRow
+blankRows = noRow ∷ noRow ∷ noRow ∷ noRow ∷ noRow ∷ noRow ∷ noRow ∷ noRow ∷ []
+
 -- the n triples from byte i on
 unfoldable pub triplesFrom : List ℕ → ℕ → ℕ → List Triple
 triplesFrom b i zero = []

@@ -3,7 +3,7 @@ use crate::records::read_u32;
 ghost use mathlib.Core.Path.{_≡_};
 ghost use Prim.Native.Nat.{_+_, _-_, _*_, _/_, _≤_};
 ghost use lib.ListN.{length};
-ghost use Rattle.reader.specs.Blocks.{blockEnd, blocks, HasBlock, IsCursor, cursorAt, behindBlock, IsRegion};
+ghost use Rattle.reader.specs.Blocks.{blockEnd, blockAt, blocks, HasBlock, IsRegion};
 ghost use Rattle.reader.specs.Replies.{blockCountOf};
 
 // The end of the block at a byte.
@@ -53,37 +53,16 @@ pub(crate) fn count_blocks(blob: &[u8], start: usize, end: usize, size: usize) -
     BlockCount::Blocks(n)
 }
 
-// A block of a region by its number, and the byte of its count.
-pub(crate) struct Cursor {
-    pub(crate) block: usize,
-    pub(crate) at: usize,
-}
-
-// Where a walk to a block sets out: the cursor, or the region's start where the cursor is past the block.
-fn behind(start: usize, cursor: Cursor, block: usize) -> Cursor
-    ensures { λ r. ⌜ r ≡ behindBlock start cursor block ⌝ }
+// The byte of the block that lies n blocks after the one at a byte.
+pub(crate) fn block_after(blob: &[u8], at: usize, n: usize, size: usize) -> usize
+    requires { ⌜ HasBlock size (now blob) at n ⌝ }
+    ensures { λ r. ⌜ r ≡ blockAt size (now (blob .entry)) at n ⌝ }
 {
-    if cursor.block <= block {
-        return cursor;
-    }
-    Cursor {
-        block: 0,
-        at: start,
-    }
-}
-
-// The cursor at a block of the region that begins at start. The walk goes on from the given cursor where the block is not before it, so
-// a pass over block ids that do not fall walks the region once.
-pub(crate) fn seek(blob: &[u8], start: usize, cursor: Cursor, block: usize, size: usize) -> Cursor
-    requires { ⌜ HasBlock size (now blob) start block × IsCursor size (now blob) start cursor ⌝ }
-    ensures { λ r. ⌜ r ≡ cursorAt size (now (blob .entry)) start block ⌝ }
-{
-    let from = behind(start, cursor, block);
-    let mut k = from.block;
-    let mut at = from.at;
-    while k < block {
-        at = round_up(block_end(blob, at, size));
+    let mut k: usize = 0;
+    let mut i = at;
+    while k < n {
+        i = round_up(block_end(blob, i, size));
         k += 1;
     }
-    Cursor { block: k, at }
+    i
 }

@@ -6,8 +6,8 @@ use crate::names::Piece;
 use crate::names::name_piece;
 use crate::names::write_piece;
 use crate::objects::check_object;
+use crate::objects::object_record;
 use crate::records::ClassEntry;
-use crate::records::ObjectRecord;
 use text::error::MatError;
 use text::reply::Checked;
 use text::utf8::LossyLength;
@@ -176,11 +176,7 @@ pub fn object_class_name(blob: &[u8], object_id: u32, text: &mut [u8]) -> NameRe
             if let Checked::Failed(e) = check_object(w, object_id) {
                 return NameReply::Error(e);
             }
-            let record = ObjectRecord::read(
-                blob,
-                w.offsets.o2 + ObjectRecord::SIZE * object_id as usize,
-            );
-            write_class(blob, w, record.class_id, text)
+            write_class(blob, w, object_record(blob, w, object_id).class_id, text)
         }
         ParseReply::Error(e) => NameReply::Error(e),
     }

@@ -103,7 +103,7 @@ fn read_offsets(blob: &[u8]) -> Offsets
 }
 
 // What a blob of length 0 opens as: it has no header.
-fn empty_wrapper() -> FileWrapper
+pub(crate) fn empty_wrapper() -> FileWrapper
     ensures { λ r. ⌜ r ≡ emptyWrapper ⌝ }
 {
     FileWrapper {

@@ -7,6 +7,7 @@ pub mod file_wrapper;
 pub mod find;
 pub mod labels;
 pub mod lines;
+pub mod listing;
 pub mod names;
 pub mod objects;
 pub mod opaque;

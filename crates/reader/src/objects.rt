@@ -1,23 +1,18 @@
 // The objects of a metadata blob.
-use crate::blocks::Cursor;
-use crate::blocks::seek;
+use crate::blocks::block_after;
 use crate::file_wrapper::FileWrapper;
-use crate::file_wrapper::ParseReply;
 use crate::records::ObjectRecord;
 use crate::records::Triple;
 use crate::records::read_u32;
 use text::error::MatError;
 use text::reply::Checked;
-use text::reply::LengthReply;
 ghost use mathlib.Core.Path.{_≡_};
-ghost use Prim.Native.Nat.{_-_};
-ghost use Rattle.text.specs.Replies.{checkedOf, lengthReplyOf};
-ghost use Rattle.reader.specs.Blocks.{cursorAt};
+ghost use Prim.Native.Nat.{_<_};
+ghost use Rattle.text.specs.Replies.{checkedOf};
 ghost use Rattle.reader.specs.Objects.{regionStart, regionBlocks, checkBlock};
 ghost use Rattle.reader.specs.Opening.{Opens};
 ghost use Rattle.reader.specs.Queries.{checkObject, objectRecord};
-ghost use Rattle.reader.specs.ObjectStages.{blockOf, cursorOf, withCursor, firstBlocks, rowFrom, ToBlock, ToObject, ReadsObject, checkObjects, noRow, blankRows, objectList, countOf, lastRow, listingReplyOf, Lists, ToNext, NextObject};
-ghost use Rattle.reader.specs.Replies.{WritesObjects};
+ghost use Rattle.reader.specs.ObjectStages.{blockOf, rowFrom, ReadsObject};
 
 // An object: its class, the region of its property block (0 saved, 1 normal), the block's id there, and how many properties it has.
 #[repr(C)]
@@ -41,6 +36,14 @@ pub(crate) fn check_object(w: FileWrapper, object_id: u32) -> Checked
     Checked::Passed
 }
 
+// The record of an object that the blob has.
+pub(crate) fn object_record(blob: &[u8], w: FileWrapper, object_id: u32) -> ObjectRecord
+    requires { ⌜ Opens (now blob) w × («object_id» < w .records) ⌝ }
+    ensures { λ r. ⌜ r ≡ objectRecord (now (blob .entry)) w «object_id» ⌝ }
+{
+    ObjectRecord::read(blob, w.offsets.o2 + ObjectRecord::SIZE * object_id as usize)
+}
+
 // The property block of an object: its region, and its id there.
 pub(crate) struct BlockId {
     pub(crate) region: u32,
@@ -48,7 +51,7 @@ pub(crate) struct BlockId {
 }
 
 // The block that a record names: a saved one goes before a normal one.
-fn block_of(object: ObjectRecord) -> BlockId
+pub(crate) fn block_of(object: ObjectRecord) -> BlockId
     ensures { λ r. ⌜ r ≡ blockOf object ⌝ }
 {
     if object.saveobj_id == 0 {
@@ -63,7 +66,7 @@ fn block_of(object: ObjectRecord) -> BlockId
     }
 }
 
-fn region_start(w: FileWrapper, region: u32) -> usize
+pub(crate) fn region_start(w: FileWrapper, region: u32) -> usize
     ensures { λ r. ⌜ r ≡ regionStart w region ⌝ }
 {
     if region == 0 {
@@ -73,7 +76,7 @@ fn region_start(w: FileWrapper, region: u32) -> usize
     }
 }
 
-fn region_blocks(w: FileWrapper, region: u32) -> usize
+pub(crate) fn region_blocks(w: FileWrapper, region: u32) -> usize
     ensures { λ r. ⌜ r ≡ regionBlocks w region ⌝ }
 {
     if region == 0 {
@@ -83,120 +86,8 @@ fn region_blocks(w: FileWrapper, region: u32) -> usize
     }
 }
 
-// Where the walk of each property region stands.
-pub(crate) struct Cursors {
-    pub(crate) saveobj: Cursor,
-    pub(crate) normalobj: Cursor,
-}
-
-// The cursors at the start of both regions.
-pub(crate) fn first_blocks(w: FileWrapper) -> Cursors
-    ensures { λ r. ⌜ r ≡ firstBlocks w ⌝ }
-{
-    Cursors {
-        saveobj: Cursor {
-            block: 0,
-            at: w.offsets.o1,
-        },
-        normalobj: Cursor {
-            block: 0,
-            at: w.offsets.o3,
-        },
-    }
-}
-
-fn cursor_of(cursors: Cursors, region: u32) -> Cursor
-    ensures { λ r. ⌜ r ≡ cursorOf cursors region ⌝ }
-{
-    if region == 0 {
-        cursors.saveobj
-    } else {
-        cursors.normalobj
-    }
-}
-
-fn with_cursor(cursors: Cursors, region: u32, cursor: Cursor) -> Cursors
-    ensures { λ r. ⌜ r ≡ withCursor cursors region cursor ⌝ }
-{
-    let saveobj = cursors.saveobj;
-    let normalobj = cursors.normalobj;
-    if region == 0 {
-        return Cursors {
-            saveobj: cursor,
-            normalobj,
-        };
-    }
-    Cursors {
-        saveobj,
-        normalobj: cursor,
-    }
-}
-
-// The cursor at a property block that its region has.
-fn seek_block(blob: &[u8], w: FileWrapper, cursors: Cursors, block: BlockId) -> Cursor
-    requires { ⌜ ToBlock (now blob) w cursors block ⌝ }
-    ensures { λ r. ⌜ r ≡ cursorAt 12 (now (blob .entry)) (regionStart w (block .region)) (block .id) ⌝ }
-{
-    let start = region_start(w, block.region);
-    let from = cursor_of(cursors, block.region);
-    seek(blob, start, from, block.id as usize, Triple::SIZE)
-}
-
-// An object, the byte of its block's count (0 where it has no block), and the cursors after it.
-pub(crate) enum ObjectReply {
-    Object {
-        row: ObjectRow,
-        at: usize,
-        cursors: Cursors,
-    },
-    Error(MatError),
-}
-
-// The object of an id that the blob has: check 10. Where block ids do not fall from one call to the next, the cursors walk each region
-// once.
-pub(crate) fn read_object(
-    blob: &[u8],
-    w: FileWrapper,
-    cursors: Cursors,
-    object_id: u32,
-) -> ObjectReply
-    requires { ⌜ ToObject (now blob) w cursors «object_id» ⌝ }
-    ensures { λ r. ⌜ ReadsObject (now (blob .entry)) w (objectRecord (now (blob .entry)) w «object_id») r ⌝ }
-{
-    let at = w.offsets.o2 + ObjectRecord::SIZE * object_id as usize;
-    let object = ObjectRecord::read(blob, at);
-    let block = block_of(object);
-    if block.id == 0 {
-        return ObjectReply::Object {
-            row: object_row(object, block, 0),
-            at: 0,
-            cursors,
-        };
-    }
-    if region_blocks(w, block.region) <= block.id as usize {
-        return ObjectReply::Error(MatError::PropertyBlockIdOutOfRange(block.id as u64));
-    }
-    let cursor = seek_block(blob, w, cursors, block);
-    ObjectReply::Object {
-        row: object_row(object, block, read_u32(blob, cursor.at)),
-        at: cursor.at,
-        cursors: with_cursor(cursors, block.region, cursor),
-    }
-}
-
-fn object_row(object: ObjectRecord, block: BlockId, property_count: u32) -> ObjectRow
-    ensures { λ r. ⌜ r ≡ rowFrom object block «property_count» ⌝ }
-{
-    ObjectRow {
-        class_id: object.class_id,
-        region: block.region,
-        block_id: block.id,
-        property_count,
-    }
-}
-
 // Check 10 for an object.
-fn check_block(w: FileWrapper, object: ObjectRecord) -> Checked
+pub(crate) fn check_block(w: FileWrapper, object: ObjectRecord) -> Checked
     ensures { λ r. ⌜ checkedOf r ≡ checkBlock w object ⌝ }
 {
     let block = block_of(object);
@@ -209,189 +100,43 @@ fn check_block(w: FileWrapper, object: ObjectRecord) -> Checked
     Checked::Passed
 }
 
-// Check 10 for each object, which looks at no block.
-fn check_objects(blob: &[u8], w: FileWrapper) -> Checked
-    requires { ⌜ Opens (now blob) w ⌝ }
-    ensures { λ r. ⌜ checkedOf r ≡ checkObjects (now (blob .entry)) w 1 (w .records - 1) ⌝ }
-{
-    let mut id: u32 = 1;
-    while (id as usize) < w.records {
-        let at = w.offsets.o2 + ObjectRecord::SIZE * id as usize;
-        let object = ObjectRecord::read(blob, at);
-        if let Checked::Failed(e) = check_block(w, object) {
-            return Checked::Failed(e);
-        }
-        id += 1;
-    }
-    Checked::Passed
-}
-
-// The objects of a blob: its records without the first.
-fn object_count(w: FileWrapper) -> usize
-    ensures { λ r. ⌜ r ≡ w .records - 1 ⌝ }
-{
-    if w.records == 0 {
-        return 0;
-    }
-    w.records - 1
-}
-
-// A listing under way: the opened blob, how many objects it has, where the walks of its regions stand, and the object that was read last;
-// or why there is none.
-pub(crate) enum Listing {
-    Objects {
-        w: FileWrapper,
-        count: usize,
-        cursors: Cursors,
-        row: ObjectRow,
-    },
-    Refused(MatError),
-}
-
-fn no_row() -> ObjectRow
-    ensures { λ r. ⌜ r ≡ noRow ⌝ }
+pub(crate) fn object_row(object: ObjectRecord, block: BlockId, property_count: u32) -> ObjectRow
+    ensures { λ r. ⌜ r ≡ rowFrom object block «property_count» ⌝ }
 {
     ObjectRow {
-        class_id: 0,
-        region: 0,
-        block_id: 0,
-        property_count: 0,
+        class_id: object.class_id,
+        region: block.region,
+        block_id: block.id,
+        property_count,
     }
 }
 
-// The listing before its first object, for so many rows: all checks.
-fn start_listing(blob: &[u8], room: usize) -> Listing
-    ensures { λ r. ⌜ Lists (now (blob .entry)) room r ⌝ }
+// An object, and the byte of its block's count (0 where it has no block).
+pub(crate) enum ObjectReply {
+    Object { row: ObjectRow, at: usize },
+    Error(MatError),
+}
+
+// The object of an id that the blob has: check 10.
+pub(crate) fn read_object(blob: &[u8], w: FileWrapper, object_id: u32) -> ObjectReply
+    requires { ⌜ Opens (now blob) w × («object_id» < w .records) ⌝ }
+    ensures { λ r. ⌜ ReadsObject (now (blob .entry)) w (objectRecord (now (blob .entry)) w «object_id») r ⌝ }
 {
-    match FileWrapper::parse(blob) {
-        ParseReply::Parsed(w) => {
-            if let Checked::Failed(e) = check_objects(blob, w) {
-                return Listing::Refused(e);
-            }
-            let count = object_count(w);
-            if room < count {
-                return Listing::Refused(MatError::OutputTooShort(count as u64));
-            }
-            Listing::Objects {
-                w,
-                count,
-                cursors: first_blocks(w),
-                row: no_row(),
-            }
-        }
-        ParseReply::Error(e) => Listing::Refused(e),
+    let object = object_record(blob, w, object_id);
+    if let Checked::Failed(e) = check_block(w, object) {
+        return ObjectReply::Error(e);
     }
-}
-
-// The listing after object i, counted from 0.
-fn next_object(blob: &[u8], listing: Listing, i: usize) -> Listing
-    requires { ⌜ ToNext (now blob) listing i ⌝ }
-    ensures { λ r. ⌜ NextObject (now (blob .entry)) listing i r ⌝ }
-{
-    match listing {
-        Listing::Objects {
-            w,
-            count,
-            cursors,
-            row: _,
-        } => match read_object(blob, w, cursors, i as u32 + 1) {
-            ObjectReply::Object {
-                row,
-                at: _,
-                cursors: after,
-            } => Listing::Objects {
-                w,
-                count,
-                cursors: after,
-                row,
-            },
-            ObjectReply::Error(e) => Listing::Refused(e),
-        },
-        Listing::Refused(e) => Listing::Refused(e),
+    let block = block_of(object);
+    if block.id == 0 {
+        return ObjectReply::Object {
+            row: object_row(object, block, 0),
+            at: 0,
+        };
     }
-}
-
-fn last_row(listing: Listing) -> ObjectRow
-    ensures { λ r. ⌜ r ≡ lastRow listing ⌝ }
-{
-    match listing {
-        Listing::Objects {
-            w: _,
-            count: _,
-            cursors: _,
-            row,
-        } => row,
-        Listing::Refused(_) => no_row(),
+    let start = region_start(w, block.region);
+    let at = block_after(blob, start, block.id as usize, Triple::SIZE);
+    ObjectReply::Object {
+        row: object_row(object, block, read_u32(blob, at)),
+        at,
     }
-}
-
-// How many rows are to be written.
-fn count_of(listing: Listing) -> usize
-    ensures { λ r. ⌜ r ≡ countOf (listingReplyOf listing) ⌝ }
-{
-    match listing {
-        Listing::Objects {
-            w: _,
-            count,
-            cursors: _,
-            row: _,
-        } => count,
-        Listing::Refused(_) => 0,
-    }
-}
-
-fn reply_of(listing: Listing) -> LengthReply
-    ensures { λ r. ⌜ lengthReplyOf r ≡ listingReplyOf listing ⌝ }
-{
-    match listing {
-        Listing::Objects {
-            w: _,
-            count,
-            cursors: _,
-            row: _,
-        } => LengthReply::Length(count),
-        Listing::Refused(e) => LengthReply::Error(e),
-    }
-}
-
-// The objects of a blob, a row for each, at the start of rows.
-pub fn list_objects(blob: &[u8], rows: &mut [ObjectRow]) -> LengthReply
-    ensures { λ r. ⌜ WritesObjects (now (blob .entry)) (now (rows .entry)) r (now (rows .exit)) ⌝ }
-{
-    let mut listing = start_listing(blob, rows.len());
-    let n = count_of(listing);
-    let mut i: usize = 0;
-    while i < n {
-        listing = next_object(blob, listing, i);
-        rows[i] = last_row(listing);
-        i += 1;
-    }
-    reply_of(listing)
-}
-
-// A listing of eight rows, and its reply.
-pub struct ObjectList {
-    pub reply: LengthReply,
-    pub rows: [ObjectRow; 8],
-}
-
-fn blank_rows() -> [ObjectRow; 8]
-    ensures { λ r. ⌜ r ≡ blankRows ⌝ }
-{
-    [no_row(); 8]
-}
-
-fn object_list(reply: LengthReply, rows: [ObjectRow; 8]) -> ObjectList
-    ensures { λ r. ⌜ r ≡ objectList reply rows ⌝ }
-{
-    ObjectList { reply, rows }
-}
-
-// The same into eight rows of zeros, by value: its callers need no reference to a row.
-pub fn list_eight(blob: &[u8]) -> ObjectList
-    ensures { λ r. ⌜ WritesObjects (now (blob .entry)) blankRows (r .reply) (r .rows) ⌝ }
-{
-    let mut rows = blank_rows();
-    let reply = list_objects(blob, &mut rows);
-    object_list(reply, rows)
 }

@@ -3,7 +3,6 @@ use crate::file_wrapper::FileWrapper;
 use crate::file_wrapper::ParseReply;
 use crate::objects::ObjectReply;
 use crate::objects::check_object;
-use crate::objects::first_blocks;
 use crate::objects::read_object;
 use crate::records::Triple;
 use text::error::MatError;
@@ -73,12 +72,8 @@ pub(crate) fn record_triples(blob: &[u8], w: FileWrapper, object_id: u32) -> Tri
     requires { ⌜ Opens (now blob) w × («object_id» < w .records) ⌝ }
     ensures { λ r. ⌜ RecordTriples (now (blob .entry)) w (objectRecord (now (blob .entry)) w «object_id») r ⌝ }
 {
-    match read_object(blob, w, first_blocks(w), object_id) {
-        ObjectReply::Object {
-            row,
-            at,
-            cursors: _,
-        } => {
+    match read_object(blob, w, object_id) {
+        ObjectReply::Object { row, at } => {
             let first = at + 4;
             let count = row.property_count as usize;
             if let Checked::Failed(e) = check_triples(blob, w, first, count) {

@@ -7,9 +7,9 @@ use crate::file_wrapper::FileWrapper;
 use crate::file_wrapper::ParseReply;
 use crate::find::first_named;
 use crate::objects::check_object;
+use crate::objects::object_record;
 use crate::properties::TriplesReply;
 use crate::properties::record_triples;
-use crate::records::ObjectRecord;
 use crate::records::Triple;
 use crate::saveobj::StringsReply;
 use crate::saveobj::decode_string_saveobj;
@@ -62,8 +62,7 @@ fn string_property(blob: &[u8], w: FileWrapper, object_id: u32) -> ChosenReply
     if let Checked::Failed(e) = check_object(w, object_id) {
         return ChosenReply::Error(e);
     }
-    let at = w.offsets.o2 + ObjectRecord::SIZE * object_id as usize;
-    let class_id = ObjectRecord::read(blob, at).class_id;
+    let class_id = object_record(blob, w, object_id).class_id;
     if let Checked::Failed(e) = check_string_class(blob, w, class_id) {
         return ChosenReply::Error(e);
     }

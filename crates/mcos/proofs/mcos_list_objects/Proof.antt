@@ -43,10 +43,10 @@ use Rattle.reader.specs.declared.objects.ObjectRow.{ObjectRow}
 use Rattle.reader.proofs.objects.ObjectRow as T
 use Rattle.text.proofs.reply.LengthReply as R
 use Rattle.text.proofs.reply.LengthReply.Laws as R′
-use Rattle.reader.proofs.objects.list_objects as list
-use Rattle.reader.proofs.objects.list_objects.Symbol as list-def
-use Rattle.reader.proofs.objects.list_objects.Symbol.{name as #list}
-use Rattle.reader.proofs.objects.list_objects.Met as list-thm
+use Rattle.reader.proofs.listing.list_objects as list
+use Rattle.reader.proofs.listing.list_objects.Symbol as list-def
+use Rattle.reader.proofs.listing.list_objects.Symbol.{name as #list}
+use Rattle.reader.proofs.listing.list_objects.Met as list-thm
 use Rattle.store.proofs.Passed.{all-passed, all-passed-go}
 use Rattle.mcos.specs.Exports.{Exports}
 use Rattle.mcos.proofs.ExportLaws.{told-list}
@@ -221,5 +221,5 @@ mcos-list-objects-spec 𝓤 H 𝓜 𝓖 𝓡 =
     entered 𝓤 H (tripleOf 𝓤 H (𝓖 .A) export.signature (export.spec 𝓤 H (𝓖 .A) (𝓜 .mem) (𝓡 .run)))
     (tables 𝓤 H 𝓜 𝓡 code.env .C) (tables 𝓤 H 𝓜 𝓡 code.env .Λ) #export code.function (code.unfolded 𝓤 H 𝓜 𝓡)
     (export-meets 𝓤 H (𝓖 .A) (givenOf 𝓤 H 𝓜 𝓖) (𝓜 .mem) (𝓡 .run) (tablesOf 𝓤 H 𝓜 (tables 𝓤 H 𝓜 𝓡 code.env))
-    (cited 𝓤 H (Listing 𝓤 H (𝓖 .A) (𝓜 .mem) (𝓡 .run)) 𝓜 𝓡 code.env #list list-def.routine code.calls-reader·objects·list-objects (list-thm.met 𝓤 H 𝓜 𝓖 𝓡))
+    (cited 𝓤 H (Listing 𝓤 H (𝓖 .A) (𝓜 .mem) (𝓡 .run)) 𝓜 𝓡 code.env #list list-def.routine code.calls-reader·listing·list-objects (list-thm.met 𝓤 H 𝓜 𝓖 𝓡))
     (cited 𝓤 H (Put 𝓤 H (𝓖 .A) (𝓜 .mem) (𝓡 .run)) 𝓜 𝓡 code.env #put put-def.routine code.calls-mcos·put-length (put-thm.met 𝓤 H 𝓜 𝓖 𝓡)))
