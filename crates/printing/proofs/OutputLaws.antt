@@ -19,7 +19,7 @@ use Rattle.reader.specs.Replies.{WritesText}
 use Rattle.reader.specs.declared.lines.LinePart.{LinePart}
 use Rattle.reader.specs.declared.names.NameReply.{NameReply}
 use Rattle.reader.specs.declared.names.NameReply.the-variants as name
-use Rattle.reader.proofs.LineLaws.{escaped-most, part-most, text-puts, text-never}
+use Rattle.reader.proofs.lines.Laws.{escaped-most, part-most, text-puts, text-never}
 use Rattle.printing.specs.Output.{startOf, Ready, Adds, MakesRoom, Copies}
 use Rattle.printing.specs.declared.output.Output.{Output}
 

@@ -30,7 +30,7 @@ use Rattle.reader.specs.Queries.{shown, nameText, checkNames, entryText,
 use Rattle.reader.specs.Wire.{u32At}
 use Rattle.reader.specs.declared.file_wrapper.FileWrapper.{FileWrapper}
 use Rattle.reader.specs.declared.records.ObjectRecord.{ObjectRecord}
-use Rattle.reader.proofs.BlockLaws.{blocks-more, blocks-end}
+use Rattle.reader.proofs.blocks.Laws.{blocks-more, blocks-end}
 
 -- ---- words
 

@@ -21,8 +21,8 @@ use Rattle.reader.specs.Opening.{emptyWrapper, opened}
 use Rattle.reader.specs.Queries.{intoOutput, nameText, entryOf, classOf, classText, checkObject, objectClassText}
 use Rattle.reader.specs.declared.file_wrapper.FileWrapper.{FileWrapper}
 use Rattle.reader.specs.declared.lines.LinePart.the-variants as part
-use Rattle.reader.proofs.LabelLaws.{label-zero}
-use Rattle.reader.proofs.OpeningLaws.{no-2}
+use Rattle.reader.proofs.labels.Laws.{label-zero}
+use Rattle.reader.proofs.file_wrapper.Laws.{no-2}
 
 -- ---- opening
 

@@ -31,8 +31,8 @@ use Rattle.reader.specs.declared.file_wrapper.ParseReply.the-variants as
 use Rattle.reader.specs.declared.names.NameReply.{NameReply}
 use Rattle.reader.specs.declared.names.NameReply.the-variants as name
 use Rattle.reader.specs.declared.names.Piece.{Piece}
-use Rattle.reader.proofs.BlockLaws.{blocks-end}
-use Rattle.reader.proofs.PieceLaws.{from-here}
+use Rattle.reader.proofs.blocks.Laws.{blocks-end}
+use Rattle.reader.proofs.names.Pieces.{from-here}
 
 -- ---- what an opened blob has
 

@@ -22,13 +22,13 @@ use Rattle.writer.specs.Spans.{stringAt, stringsFrom, isSome}
 use Rattle.writer.specs.Words.{packed}
 use Rattle.writer.proofs.ArrayLaws.{array-passed, strings-well-formed}
 use Rattle.writer.proofs.ShapeLaws.{shape-product}
-use Rattle.writer.proofs.StringLaws.{length-strings, all-units-append}
+use Rattle.writer.proofs.StringWordLaws.{length-strings, all-units-append}
 use Rattle.writer.proofs.WordLaws.{length-packed}
 use Rattle.reader.specs.Saveobj.{storedDims, unitCount, unitsBefore, storedUnits, storedStrings, checkHeader, checkSum, checkLengths, checkStrings, decodePayload}
 use Rattle.reader.specs.Units.{unitsIn}
-use Rattle.reader.proofs.LengthLaws.{sumFits}
-use Rattle.reader.proofs.PackedLaws.{part-within}
-use Rattle.reader.proofs.StringLaws.{isPaired}
+use Rattle.reader.proofs.saveobj.Lengths.{sumFits}
+use Rattle.reader.proofs.units.Packed.{part-within}
+use Rattle.reader.proofs.saveobj.Strings.{isPaired}
 
 -- what writing asks of an array, with x the words that follow it
 pub record Writable (a : Array) (x : List ℕ) : Type 0 where

@@ -18,9 +18,9 @@ use Rattle.writer.specs.Array.{Array, noArray, payload, payloads, payloadSpans}
 use Rattle.writer.specs.FileWrapper.{fileWrapper}
 use Rattle.writer.specs.Spans.{offsetAt, lengthAt, endAt, stringAt, stringsFrom, spansFrom}
 use Rattle.writer.proofs.LayoutLaws.{span-offset, span-end}
-use Rattle.writer.proofs.StringLaws.{length-strings}
+use Rattle.writer.proofs.StringWordLaws.{length-strings}
 use Rattle.reader.specs.Saveobj.{decodedArray, isCanonicalPayload}
-use Rattle.reader.proofs.CanonicalPayloadLaws.{canonical-is, canonical-accepted}
+use Rattle.reader.proofs.saveobj.Canonical.{canonical-is, canonical-accepted}
 use Rattle.store.specs.Store.{Store, storeOf, serialize, cells, storedArrays, every, sameStore, isCanonical}
 use Rattle.store.specs.Stages.{cellsWalk, CellsInside}
 use Rattle.store.proofs.StoreLaws.{AllAccepted, both, same-store-refl, stored-are, serialized-canonical}

@@ -23,7 +23,7 @@ use Rattle.text.proofs.TestLaws.{and-is, not-both}
 use Rattle.writer.specs.FileWrapper.{isFileWrapper}
 use Rattle.writer.specs.Spans.{offsetAt, lengthAt, endAt, stringAt}
 use Rattle.reader.specs.Cells.{isCell, checkDirectory}
-use Rattle.reader.proofs.CellLaws.{cell-within}
+use Rattle.reader.proofs.cells.Laws.{cell-within}
 use Rattle.reader.specs.Saveobj.{isCanonicalPayload}
 use Rattle.store.specs.Store.{Store, Lengths, storeOf, counted, isCanonical}
 use Rattle.store.specs.Edits.{checkCounts, checkCounted, checkStore, checkRoom}

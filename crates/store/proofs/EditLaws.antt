@@ -17,7 +17,7 @@ use Rattle.writer.specs.FileWrapper.{fileWrapper}
 use Rattle.writer.specs.Spans.{lengthAt}
 use Rattle.writer.proofs.FileWrapperLaws.{length-file-wrapper}
 use Rattle.writer.proofs.LayoutLaws.{length-payload-spans}
-use Rattle.reader.proofs.CanonicalLaws.{canonical-directory}
+use Rattle.reader.proofs.ReadBack.{canonical-directory}
 use Rattle.store.specs.Store.{Store, Lengths, lengthsOf, serialize, counted, storedArrays}
 use Rattle.store.specs.Edits.{checkCounts, checkCounted, checkStore, checkObjectCount, checkRoom, checkAppend, appended, checkReplace, wordsAfter, replaced, replyOf, laid, storeAfter}
 use Rattle.store.specs.Model.{Edit, append, replace, Ended, checkLengths, tried, candidate, listAfter, modelFrom, call, execute, ReadsBack, Edited}

@@ -26,7 +26,7 @@ use Rattle.writer.specs.Spans.{lengthAt}
 use Rattle.writer.specs.Stages.{arrayIn}
 use Rattle.writer.proofs.ArrayLaws.{array-passed}
 use Rattle.writer.proofs.FileWrapperLaws.{length-file-wrapper}
-use Rattle.writer.proofs.PayloadLaws.{measured-passed, measured-failed}
+use Rattle.writer.proofs.string_object.Payload.{measured-passed, measured-failed}
 use Rattle.reader.specs.Cells.{checkDirectory}
 use Rattle.reader.specs.Saveobj.{isCanonicalPayload}
 use Rattle.store.specs.Store.{Store, storeOf, lengthsOf, serialize, counted, cells, storedArrays, every, sameStore, isCanonical}

@@ -18,7 +18,7 @@ use Rattle.writer.proofs.LayoutLaws.{payload-at}
 use Rattle.reader.specs.Queries.{intoOutput}
 use Rattle.reader.specs.Saveobj.{decodePayload, decodedArray, isCanonicalPayload, intoStrings}
 use Rattle.reader.proofs.BuiltLaws.{built-class, built-triples, built-name}
-use Rattle.reader.proofs.CanonicalLaws.{accepted-decodes, canonical-first, canonical-second}
+use Rattle.reader.proofs.ReadBack.{accepted-decodes, canonical-first, canonical-second}
 use Rattle.store.specs.Store.{Store, serialize, cells, storedArrays, every, sameStore, isCanonical}
 use Rattle.store.specs.Model.{ReadsBack}
 

@@ -15,7 +15,7 @@ use Rattle.text.specs.Buffer.{same}
 use Rattle.text.specs.Unicode.{isScalar, utf8, utf8s, encoded}
 use Rattle.text.specs.Stages.{stepHas}
 use Rattle.text.specs.Utf8.{stepAt, partsFrom, repaired, lossy}
-use Rattle.text.proofs.LossyLaws.{Writes, splits, writes-scalar, writes-replacement, nothing-left, replacement-size}
+use Rattle.text.proofs.utf8.Lossy.{Writes, splits, writes-scalar, writes-replacement, nothing-left, replacement-size}
 use Rattle.text.proofs.PartLaws.{step-reads}
 use Rattle.text.proofs.ScalarLaws.{scalar-is, encoded-is}
 use Rattle.text.proofs.TestLaws.{not-both, and-is, either}

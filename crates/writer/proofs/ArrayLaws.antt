@@ -16,7 +16,7 @@ use Rattle.writer.specs.Array.{Array, stringUnits, stringWords, payload,
 use Rattle.writer.specs.Spans.{endAt, stringAt, stringsIn, checkString, checkStrings}
 use Rattle.writer.specs.Stages.{arrayIn}
 use Rattle.writer.proofs.SpanLaws.{Passed, string-passed}
-use Rattle.writer.proofs.StringLaws.{length-strings}
+use Rattle.writer.proofs.StringWordLaws.{length-strings}
 
 -- ---- lengths
 

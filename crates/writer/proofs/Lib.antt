@@ -1,12 +1,7 @@
 pub mod ArrayLaws
-pub mod CompareLaws
 pub mod FileWrapperLaws
 pub mod LayoutLaws
-pub mod MeasureLaws
-pub mod PackLaws
-pub mod PayloadLaws
-pub mod SequenceLaws
 pub mod ShapeLaws
 pub mod SpanLaws
-pub mod StringLaws
+pub mod StringWordLaws
 pub mod WordLaws

@@ -1,7 +1,7 @@
 -- `printing::list_properties`: the rows that were written lie in their buffer.
 -- Assumes nothing.
 use borrow.Author.Needs.{needs}
-use Rattle.reader.proofs.PropertyLaws.{rows-in-output}
+use Rattle.reader.proofs.properties.Laws.{rows-in-output}
 use Rattle.printing.proofs.list_properties.Statement.{statement}
 use Rattle.printing.proofs.list_properties.Tie as tie
 

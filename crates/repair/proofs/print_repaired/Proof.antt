@@ -1,7 +1,7 @@
 use mathlib.Core.Path.{sym}
 use native.Mathlib.Omega.{arith}
 use lib.Seq.{length-take-le}
-use Rattle.text.proofs.LossyLaws.{written-fits}
+use Rattle.text.proofs.utf8.Lossy.{written-fits}
 use borrow.Author.Needs.{needs}
 use Rattle.repair.proofs.print_repaired.Statement.{statement}
 use Rattle.repair.proofs.print_repaired.Tie as tie

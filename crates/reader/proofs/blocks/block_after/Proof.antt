@@ -1,7 +1,7 @@
 -- `reader::blocks::block_after` meets its contract.
 -- Assumes nothing.
 use Prim.Native.Nat.{_-_}
-use Rattle.reader.proofs.BlockLaws.{Walking, walk-start, walk-read, walk-round, walk-turn, walk-last}
+use Rattle.reader.proofs.blocks.Laws.{Walking, walk-start, walk-read, walk-round, walk-turn, walk-last}
 use borrow.Author.Needs.{needs}
 use Rattle.reader.proofs.blocks.block_after.Statement.{statement}
 use Rattle.reader.proofs.blocks.block_after.Tie as tie

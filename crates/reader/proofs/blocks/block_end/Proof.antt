@@ -2,7 +2,7 @@
 -- Assumes nothing.
 use Prim.Native.Nat.{_*_, _≤_}
 use native.Mathlib.Omega.{arith}
-use Rattle.reader.proofs.BlockLaws.{entries-fit}
+use Rattle.reader.proofs.blocks.Laws.{entries-fit}
 use borrow.Author.Needs.{needs}
 use Rattle.reader.proofs.blocks.block_end.Statement.{statement}
 use Rattle.reader.proofs.blocks.block_end.Tie as tie

@@ -1,7 +1,7 @@
 -- `reader::blocks::count_blocks` meets its contract.
 -- Assumes nothing.
 use Prim.Native.Nat.{_-_}
-use Rattle.reader.proofs.BlockLaws.{Counting, count-start, count-turn, count-stop, count-last}
+use Rattle.reader.proofs.blocks.Laws.{Counting, count-start, count-turn, count-stop, count-last}
 use borrow.Author.Needs.{needs}
 use Rattle.reader.proofs.blocks.count_blocks.Statement.{statement}
 use Rattle.reader.proofs.blocks.count_blocks.Tie as tie

@@ -1,7 +1,7 @@
 -- `reader::cells::cell_at` meets its contract.
 -- Assumes nothing.
 use borrow.Author.Needs.{needs}
-use Rattle.reader.proofs.CellLaws.{cell-kind, cell-fits, cell-outcomes}
+use Rattle.reader.proofs.cells.Laws.{cell-kind, cell-fits, cell-outcomes}
 use Rattle.reader.proofs.cells.cell_at.Statement.{statement}
 use Rattle.reader.proofs.cells.cell_at.Tie as tie
 

@@ -1,7 +1,7 @@
 -- `reader::cells::cell_of` meets its contract.
 -- Assumes nothing.
 use borrow.Author.Needs.{needs}
-use Rattle.reader.proofs.CellLaws.{cell-outcomes}
+use Rattle.reader.proofs.cells.Laws.{cell-outcomes}
 use Rattle.reader.proofs.cells.cell_of.Statement.{statement}
 use Rattle.reader.proofs.cells.cell_of.Tie as tie
 

@@ -2,7 +2,7 @@
 -- Assumes nothing.
 use Prim.Native.Nat.{_-_}
 use borrow.Author.Needs.{needs}
-use Rattle.reader.proofs.CellLaws.{CellsBefore, cells-start, follows-fits, cells-stop, cells-turn, cells-last}
+use Rattle.reader.proofs.cells.Laws.{CellsBefore, cells-start, follows-fits, cells-stop, cells-turn, cells-last}
 use Rattle.reader.proofs.cells.check_cells.Statement.{statement}
 use Rattle.reader.proofs.cells.check_cells.Tie as tie
 

@@ -1,7 +1,7 @@
 -- `reader::cells::check_directory` meets its contract.
 -- Assumes nothing.
 use borrow.Author.Needs.{needs}
-use Rattle.reader.proofs.CellLaws.{directory-outcomes}
+use Rattle.reader.proofs.cells.Laws.{directory-outcomes}
 use Rattle.reader.proofs.cells.check_directory.Statement.{statement}
 use Rattle.reader.proofs.cells.check_directory.Tie as tie
 

@@ -1,7 +1,7 @@
 -- `reader::cells::follows` meets its contract.
 -- Assumes nothing.
 use borrow.Author.Needs.{needs}
-use Rattle.reader.proofs.CellLaws.{follows-outcomes}
+use Rattle.reader.proofs.cells.Laws.{follows-outcomes}
 use Rattle.reader.proofs.cells.follows.Statement.{statement}
 use Rattle.reader.proofs.cells.follows.Tie as tie
 

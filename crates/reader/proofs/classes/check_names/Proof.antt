@@ -1,6 +1,6 @@
 -- `reader::classes::check_names` meets its contract.
 -- Assumes nothing.
-use Rattle.reader.proofs.ClassLaws.{name-outside, space-outside, names-inside}
+use Rattle.reader.proofs.classes.Laws.{name-outside, space-outside, names-inside}
 use borrow.Author.Needs.{needs}
 use Rattle.reader.proofs.classes.check_names.Statement.{statement}
 use Rattle.reader.proofs.classes.check_names.Tie as tie

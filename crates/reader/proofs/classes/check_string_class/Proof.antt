@@ -1,6 +1,6 @@
 -- `reader::classes::check_string_class` meets its contract.
 -- Assumes nothing.
-use Rattle.reader.proofs.StringClassLaws.{string-no-class, string-class-entry}
+use Rattle.reader.proofs.classes.StringClass.{string-no-class, string-class-entry}
 use borrow.Author.Needs.{needs}
 use Rattle.reader.proofs.classes.check_string_class.Statement.{statement}
 use Rattle.reader.proofs.classes.check_string_class.Tie as tie

@@ -1,7 +1,7 @@
 -- `reader::classes::check_string_entry` meets its contract.
 -- Assumes nothing.
-use Rattle.reader.proofs.ClassLaws.{has-name}
-use Rattle.reader.proofs.StringClassLaws.{string-refused, string-joined, string-found, string-other}
+use Rattle.reader.proofs.classes.Laws.{has-name}
+use Rattle.reader.proofs.classes.StringClass.{string-refused, string-joined, string-found, string-other}
 use borrow.Author.Needs.{needs}
 use Rattle.reader.proofs.classes.check_string_entry.Statement.{statement}
 use Rattle.reader.proofs.classes.check_string_entry.Tie as tie

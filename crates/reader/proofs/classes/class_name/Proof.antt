@@ -1,6 +1,6 @@
 -- `reader::classes::class_name` meets its contract.
 -- Assumes nothing.
-use Rattle.reader.proofs.ClassLaws.{class-refused, class-written}
+use Rattle.reader.proofs.classes.Laws.{class-refused, class-written}
 use Rattle.reader.proofs.NameLaws.{parsed}
 use borrow.Author.Needs.{needs}
 use Rattle.reader.proofs.classes.class_name.Statement.{statement}

@@ -1,6 +1,6 @@
 -- `reader::classes::object_class_name` meets its contract.
 -- Assumes nothing.
-use Rattle.reader.proofs.ClassLaws.{object-refused, object-failed, object-below, object-written}
+use Rattle.reader.proofs.classes.Laws.{object-refused, object-failed, object-below, object-written}
 use Rattle.reader.proofs.NameLaws.{parsed}
 use borrow.Author.Needs.{needs}
 use Rattle.reader.proofs.classes.object_class_name.Statement.{statement}

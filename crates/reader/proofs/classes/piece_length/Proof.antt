@@ -1,6 +1,6 @@
 -- `reader::classes::piece_length` meets its contract.
 -- Assumes nothing.
-use Rattle.reader.proofs.ClassLaws.{length-piece, length-never}
+use Rattle.reader.proofs.classes.Laws.{length-piece, length-never}
 use borrow.Author.Needs.{needs}
 use Rattle.reader.proofs.classes.piece_length.Statement.{statement}
 use Rattle.reader.proofs.classes.piece_length.Tie as tie

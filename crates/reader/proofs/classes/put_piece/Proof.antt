@@ -1,6 +1,6 @@
 -- `reader::classes::put_piece` meets its contract.
 -- Assumes nothing.
-use Rattle.reader.proofs.ClassLaws.{piece-puts}
+use Rattle.reader.proofs.classes.Laws.{piece-puts}
 use borrow.Author.Needs.{needs}
 use Rattle.reader.proofs.classes.put_piece.Statement.{statement}
 use Rattle.reader.proofs.classes.put_piece.Tie as tie

@@ -1,6 +1,6 @@
 -- `reader::classes::read_class` meets its contract.
 -- Assumes nothing.
-use Rattle.reader.proofs.ClassLaws.{class-outside, class-inside}
+use Rattle.reader.proofs.classes.Laws.{class-outside, class-inside}
 use borrow.Author.Needs.{needs}
 use Rattle.reader.proofs.classes.read_class.Statement.{statement}
 use Rattle.reader.proofs.classes.read_class.Tie as tie

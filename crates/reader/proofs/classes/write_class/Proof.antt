@@ -1,6 +1,6 @@
 -- `reader::classes::write_class` meets its contract.
 -- Assumes nothing.
-use Rattle.reader.proofs.ClassLaws.{no-class, class-entry}
+use Rattle.reader.proofs.classes.Laws.{no-class, class-entry}
 use borrow.Author.Needs.{needs}
 use Rattle.reader.proofs.classes.write_class.Statement.{statement}
 use Rattle.reader.proofs.classes.write_class.Tie as tie

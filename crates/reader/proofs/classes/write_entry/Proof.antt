@@ -1,6 +1,6 @@
 -- `reader::classes::write_entry` meets its contract.
 -- Assumes nothing.
-use Rattle.reader.proofs.ClassLaws.{entry-refused, has-name, has-space, entry-plain, entry-joined}
+use Rattle.reader.proofs.classes.Laws.{entry-refused, has-name, has-space, entry-plain, entry-joined}
 use borrow.Author.Needs.{needs}
 use Rattle.reader.proofs.classes.write_entry.Statement.{statement}
 use Rattle.reader.proofs.classes.write_entry.Tie as tie

@@ -1,7 +1,7 @@
 -- `reader::classes::write_joined` meets its contract.
 -- Assumes nothing.
 use Rattle.reader.proofs.NameLaws.{text-same}
-use Rattle.reader.proofs.ClassLaws.{joined-short, joined-second, joined-written}
+use Rattle.reader.proofs.classes.Laws.{joined-short, joined-second, joined-written}
 use borrow.Author.Needs.{needs}
 use Rattle.reader.proofs.classes.write_joined.Statement.{statement}
 use Rattle.reader.proofs.classes.write_joined.Tie as tie

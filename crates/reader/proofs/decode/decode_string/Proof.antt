@@ -1,7 +1,7 @@
 -- `reader::decode::decode_string` meets its contract.
 -- Assumes nothing.
 use borrow.Author.Needs.{needs}
-use Rattle.reader.proofs.DecodeStringLaws.{named-there, named-outcomes}
+use Rattle.reader.proofs.decode.Laws.{named-there, named-outcomes}
 use Rattle.reader.proofs.decode.decode_string.Statement.{statement}
 use Rattle.reader.proofs.decode.decode_string.Tie as tie
 

@@ -1,8 +1,8 @@
 -- `reader::decode::measure_id` meets its contract.
 -- Assumes nothing.
 use borrow.Author.Needs.{needs}
-use Rattle.reader.proofs.CellLaws.{found}
-use Rattle.reader.proofs.DecodeStringLaws.{id-measured, id-refused}
+use Rattle.reader.proofs.cells.Laws.{found}
+use Rattle.reader.proofs.decode.Laws.{id-measured, id-refused}
 use Rattle.reader.proofs.decode.measure_id.Statement.{statement}
 use Rattle.reader.proofs.decode.measure_id.Tie as tie
 

@@ -2,7 +2,7 @@
 -- Assumes nothing.
 use Prim.Native.Nat.{_-_}
 use borrow.Author.Needs.{needs}
-use Rattle.reader.proofs.DecodeStringLaws.{MeasuringIds, ids-start, ids-bytes, ids-strings, ids-stop, ids-turn, ids-last}
+use Rattle.reader.proofs.decode.Laws.{MeasuringIds, ids-start, ids-bytes, ids-strings, ids-stop, ids-turn, ids-last}
 use Rattle.reader.proofs.decode.measure_ids.Statement.{statement}
 use Rattle.reader.proofs.decode.measure_ids.Tie as tie
 

@@ -1,8 +1,8 @@
 -- `reader::decode::put_id` meets its contract.
 -- Assumes nothing.
 use borrow.Author.Needs.{needs}
-use Rattle.reader.proofs.CellLaws.{found}
-use Rattle.reader.proofs.DecodeStringLaws.{id-fits, id-writes, id-never}
+use Rattle.reader.proofs.cells.Laws.{found}
+use Rattle.reader.proofs.decode.Laws.{id-fits, id-writes, id-never}
 use Rattle.reader.proofs.decode.put_id.Statement.{statement}
 use Rattle.reader.proofs.decode.put_id.Tie as tie
 

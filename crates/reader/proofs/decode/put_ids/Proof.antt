@@ -2,7 +2,7 @@
 -- Assumes nothing.
 use Prim.Native.Nat.{_-_}
 use borrow.Author.Needs.{needs}
-use Rattle.reader.proofs.DecodeStringLaws.{WritingIds, puts-start, puts-fits, puts-turn, puts-text, puts-spans, puts-last}
+use Rattle.reader.proofs.decode.Laws.{WritingIds, puts-start, puts-fits, puts-turn, puts-text, puts-spans, puts-last}
 use Rattle.reader.proofs.decode.put_ids.Statement.{statement}
 use Rattle.reader.proofs.decode.put_ids.Tie as tie
 

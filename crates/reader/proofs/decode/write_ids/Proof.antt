@@ -1,8 +1,8 @@
 -- `reader::decode::write_ids` meets its contract.
 -- Assumes nothing.
 use borrow.Author.Needs.{needs}
-use Rattle.reader.proofs.DecodeStringLaws.{ids-values, ids-fit}
-use Rattle.reader.proofs.PayloadLaws.{decode-refused, decode-short, decode-written}
+use Rattle.reader.proofs.decode.Laws.{ids-values, ids-fit}
+use Rattle.reader.proofs.saveobj.Payload.{decode-refused, decode-short, decode-written}
 use Rattle.reader.proofs.decode.write_ids.Statement.{statement}
 use Rattle.reader.proofs.decode.write_ids.Tie as tie
 

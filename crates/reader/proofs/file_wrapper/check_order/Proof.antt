@@ -3,7 +3,7 @@
 use Prim.Native.Nat.{_-_}
 use Rattle.text.proofs.ResultLaws.{Checks}
 use Rattle.reader.specs.Opening.{isOrdered}
-use Rattle.reader.proofs.OpeningLaws.{order-start, order-turn, order-stop, order-last}
+use Rattle.reader.proofs.file_wrapper.Laws.{order-start, order-turn, order-stop, order-last}
 use borrow.Author.Needs.{needs}
 use Rattle.reader.proofs.file_wrapper.check_order.Statement.{statement}
 use Rattle.reader.proofs.file_wrapper.check_order.Tie as tie

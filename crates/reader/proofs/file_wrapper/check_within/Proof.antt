@@ -3,7 +3,7 @@
 use Prim.Native.Nat.{_-_}
 use Rattle.text.proofs.ResultLaws.{Checks}
 use Rattle.reader.specs.Opening.{isWithin}
-use Rattle.reader.proofs.OpeningLaws.{within-start, within-turn, within-stop, within-last}
+use Rattle.reader.proofs.file_wrapper.Laws.{within-start, within-turn, within-stop, within-last}
 use borrow.Author.Needs.{needs}
 use Rattle.reader.proofs.file_wrapper.check_within.Statement.{statement}
 use Rattle.reader.proofs.file_wrapper.check_within.Tie as tie

@@ -1,6 +1,6 @@
 -- `reader::file_wrapper::parse_regions` meets its contract.
 -- Assumes nothing.
-use Rattle.reader.proofs.OpeningLaws.{regions-outcomes}
+use Rattle.reader.proofs.file_wrapper.Laws.{regions-outcomes}
 use borrow.Author.Needs.{needs}
 use Rattle.reader.proofs.file_wrapper.parse_regions.Statement.{statement}
 use Rattle.reader.proofs.file_wrapper.parse_regions.Tie as tie

@@ -1,6 +1,6 @@
 -- `reader::file_wrapper::parse_short` meets its contract.
 -- Assumes nothing.
-use Rattle.reader.proofs.OpeningLaws.{opening}
+use Rattle.reader.proofs.file_wrapper.Laws.{opening}
 use borrow.Author.Needs.{needs}
 use Rattle.reader.proofs.file_wrapper.parse_short.Statement.{statement}
 use Rattle.reader.proofs.file_wrapper.parse_short.Tie as tie

@@ -1,6 +1,6 @@
 -- `reader::find::find_property` meets its contract.
 -- Assumes nothing.
-use Rattle.reader.proofs.FindLaws.{find-refused, find-checked, find-none, find-some}
+use Rattle.reader.proofs.find.Laws.{find-refused, find-checked, find-none, find-some}
 use borrow.Author.Needs.{needs}
 use Rattle.reader.proofs.find.find_property.Statement.{statement}
 use Rattle.reader.proofs.find.find_property.Tie as tie

@@ -2,7 +2,7 @@
 -- Assumes nothing.
 use Prim.Native.Nat.{_-_}
 use Rattle.reader.specs.ObjectStages.{flagged}
-use Rattle.reader.proofs.FindLaws.{Passing, pass-start, pass-found, pass-turn, pass-last}
+use Rattle.reader.proofs.find.Laws.{Passing, pass-start, pass-found, pass-turn, pass-last}
 use borrow.Author.Needs.{needs}
 use Rattle.reader.proofs.find.first_flagged.Statement.{statement}
 use Rattle.reader.proofs.find.first_flagged.Tie as tie

@@ -1,7 +1,7 @@
 -- `reader::find::first_named` meets its contract.
 -- Assumes nothing.
 use Prim.Native.Nat.{_+_, _-_}
-use Rattle.reader.proofs.FindLaws.{Walking, walk-start, walk-names, walk-triples, walk-turn, walk-last}
+use Rattle.reader.proofs.find.Laws.{Walking, walk-start, walk-names, walk-triples, walk-turn, walk-last}
 use borrow.Author.Needs.{needs}
 use Rattle.reader.proofs.find.first_named.Statement.{statement}
 use Rattle.reader.proofs.find.first_named.Tie as tie

@@ -1,6 +1,6 @@
 -- `reader::find::is_flagged` meets its contract.
 -- Assumes nothing.
-use Rattle.reader.proofs.FindLaws.{flag-before, flag-after, flag-here}
+use Rattle.reader.proofs.find.Laws.{flag-before, flag-after, flag-here}
 use borrow.Author.Needs.{needs}
 use Rattle.reader.proofs.find.is_flagged.Statement.{statement}
 use Rattle.reader.proofs.find.is_flagged.Tie as tie

@@ -1,6 +1,6 @@
 -- `reader::find::look_at` meets its contract.
 -- Assumes nothing.
-use Rattle.reader.proofs.FindLaws.{look-inside, look-empty, look-piece}
+use Rattle.reader.proofs.find.Laws.{look-inside, look-empty, look-piece}
 use borrow.Author.Needs.{needs}
 use Rattle.reader.proofs.find.look_at.Statement.{statement}
 use Rattle.reader.proofs.find.look_at.Tie as tie

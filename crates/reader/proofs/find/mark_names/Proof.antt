@@ -2,7 +2,7 @@
 -- Assumes nothing.
 use Prim.Native.Nat.{_-_, _≤_}
 use Rattle.reader.specs.ObjectStages.{Marks}
-use Rattle.reader.proofs.FindLaws.{marks-start, marks-name, marks-turn, marks-last}
+use Rattle.reader.proofs.find.Laws.{marks-start, marks-name, marks-turn, marks-last}
 use borrow.Author.Needs.{needs}
 use Rattle.reader.proofs.find.mark_names.Statement.{statement}
 use Rattle.reader.proofs.find.mark_names.Tie as tie

@@ -1,6 +1,6 @@
 -- `reader::find::next_chunk` meets its contract.
 -- Assumes nothing.
-use Rattle.reader.proofs.FindLaws.{chunk-names, chunk-found, chunk-none}
+use Rattle.reader.proofs.find.Laws.{chunk-names, chunk-found, chunk-none}
 use borrow.Author.Needs.{needs}
 use Rattle.reader.proofs.find.next_chunk.Statement.{statement}
 use Rattle.reader.proofs.find.next_chunk.Tie as tie

@@ -1,7 +1,7 @@
 -- `reader::labels::label` meets its contract.
 -- Assumes nothing.
 use native.Mathlib.Omega.{arith}
-use Rattle.reader.proofs.LabelLaws.{blob-fits, placeholder-fits, part-fits, part-refused, part-given}
+use Rattle.reader.proofs.labels.Laws.{blob-fits, placeholder-fits, part-fits, part-refused, part-given}
 use borrow.Author.Needs.{needs}
 use Rattle.reader.proofs.labels.label.Statement.{statement}
 use Rattle.reader.proofs.labels.label.Tie as tie

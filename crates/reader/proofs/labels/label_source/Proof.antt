@@ -1,8 +1,8 @@
 -- `reader::labels::label_source` meets its contract.
 -- Assumes nothing.
-use Rattle.reader.proofs.LabelLaws.{heap-inside, source-refused, source-outside, source-zero, source-empty, source-blob, source-ill-formed}
+use Rattle.reader.proofs.labels.Laws.{heap-inside, source-refused, source-outside, source-zero, source-empty, source-blob, source-ill-formed}
 use Rattle.reader.proofs.NameLaws.{has-name}
-use Rattle.reader.proofs.PieceLaws.{has-piece}
+use Rattle.reader.proofs.names.Pieces.{has-piece}
 use borrow.Author.Needs.{needs}
 use Rattle.reader.proofs.labels.label_source.Statement.{statement}
 use Rattle.reader.proofs.labels.label_source.Tie as tie

@@ -1,6 +1,6 @@
 -- `reader::lines::decimal_length` meets its contract.
 -- Assumes nothing.
-use Rattle.reader.proofs.LineLaws.{Counting, count-start, count-turn, count-last}
+use Rattle.reader.proofs.lines.Laws.{Counting, count-start, count-turn, count-last}
 use borrow.Author.Needs.{needs}
 use Rattle.reader.proofs.lines.decimal_length.Statement.{statement}
 use Rattle.reader.proofs.lines.decimal_length.Tie as tie

@@ -1,6 +1,6 @@
 -- `reader::lines::escape_length` meets its contract.
 -- Assumes nothing.
-use Rattle.reader.proofs.LineLaws.{size-plain, size-hex}
+use Rattle.reader.proofs.lines.Laws.{size-plain, size-hex}
 use borrow.Author.Needs.{needs}
 use Rattle.reader.proofs.lines.escape_length.Statement.{statement}
 use Rattle.reader.proofs.lines.escape_length.Tie as tie

@@ -2,7 +2,7 @@
 -- Assumes nothing.
 use Prim.Native.Nat.{_-_}
 use lib.ListN.{length}
-use Rattle.reader.proofs.LineLaws.{Measuring, measure-start, measure-turn, measure-over, measure-last}
+use Rattle.reader.proofs.lines.Laws.{Measuring, measure-start, measure-turn, measure-over, measure-last}
 use borrow.Author.Needs.{needs}
 use Rattle.reader.proofs.lines.escaped_need.Statement.{statement}
 use Rattle.reader.proofs.lines.escaped_need.Tie as tie

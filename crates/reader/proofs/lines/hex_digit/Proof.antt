@@ -1,6 +1,6 @@
 -- `reader::lines::hex_digit` meets its contract.
 -- Assumes nothing.
-use Rattle.reader.proofs.LineLaws.{hex-figure, hex-letter}
+use Rattle.reader.proofs.lines.Laws.{hex-figure, hex-letter}
 use borrow.Author.Needs.{needs}
 use Rattle.reader.proofs.lines.hex_digit.Statement.{statement}
 use Rattle.reader.proofs.lines.hex_digit.Tie as tie

@@ -1,6 +1,6 @@
 -- `reader::lines::is_plain` meets its contract.
 -- Assumes nothing.
-use Rattle.reader.proofs.LineLaws.{plain-under, plain-over, plain-quote, plain-rest}
+use Rattle.reader.proofs.lines.Laws.{plain-under, plain-over, plain-quote, plain-rest}
 use borrow.Author.Needs.{needs}
 use Rattle.reader.proofs.lines.is_plain.Statement.{statement}
 use Rattle.reader.proofs.lines.is_plain.Tie as tie

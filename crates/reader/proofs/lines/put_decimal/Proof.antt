@@ -1,6 +1,6 @@
 -- `reader::lines::put_decimal` meets its contract.
 -- Assumes nothing.
-use Rattle.reader.proofs.LineLaws.{Printing, print-start, print-some, print-at, print-turn, print-room, print-last}
+use Rattle.reader.proofs.lines.Laws.{Printing, print-start, print-some, print-at, print-turn, print-room, print-last}
 use borrow.Author.Needs.{needs}
 use Rattle.reader.proofs.lines.put_decimal.Statement.{statement}
 use Rattle.reader.proofs.lines.put_decimal.Tie as tie

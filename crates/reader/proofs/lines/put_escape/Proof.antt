@@ -1,6 +1,6 @@
 -- `reader::lines::put_escape` meets its contract.
 -- Assumes nothing.
-use Rattle.reader.proofs.LineLaws.{plain-room, plain-puts, hex-puts}
+use Rattle.reader.proofs.lines.Laws.{plain-room, plain-puts, hex-puts}
 use borrow.Author.Needs.{needs}
 use Rattle.reader.proofs.lines.put_escape.Statement.{statement}
 use Rattle.reader.proofs.lines.put_escape.Tie as tie

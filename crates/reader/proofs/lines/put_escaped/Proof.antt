@@ -2,7 +2,7 @@
 -- Assumes nothing.
 use Prim.Native.Nat.{_-_}
 use lib.ListN.{length}
-use Rattle.reader.proofs.LineLaws.{Writing, write-start, write-room, write-turn, write-last}
+use Rattle.reader.proofs.lines.Laws.{Writing, write-start, write-room, write-turn, write-last}
 use borrow.Author.Needs.{needs}
 use Rattle.reader.proofs.lines.put_escaped.Statement.{statement}
 use Rattle.reader.proofs.lines.put_escaped.Tie as tie

@@ -1,7 +1,7 @@
 -- `reader::lines::write_escaped` meets its contract.
 -- Assumes nothing.
 use native.Mathlib.Omega.{arith}
-use Rattle.reader.proofs.LineLaws.{text-short, text-written}
+use Rattle.reader.proofs.lines.Laws.{text-short, text-written}
 use borrow.Author.Needs.{needs}
 use Rattle.reader.proofs.lines.write_escaped.Statement.{statement}
 use Rattle.reader.proofs.lines.write_escaped.Tie as tie

@@ -1,6 +1,6 @@
 -- `reader::lines::write_numbered` meets its contract.
 -- Assumes nothing.
-use Rattle.reader.proofs.LineLaws.{numbered-short, numbered-written}
+use Rattle.reader.proofs.lines.Laws.{numbered-short, numbered-written}
 use borrow.Author.Needs.{needs}
 use Rattle.reader.proofs.lines.write_numbered.Statement.{statement}
 use Rattle.reader.proofs.lines.write_numbered.Tie as tie

@@ -1,6 +1,6 @@
 -- `reader::lines::write_part` meets its contract.
 -- Assumes nothing.
-use Rattle.reader.proofs.LineLaws.{part-is}
+use Rattle.reader.proofs.lines.Laws.{part-is}
 use borrow.Author.Needs.{needs}
 use Rattle.reader.proofs.lines.write_part.Statement.{statement}
 use Rattle.reader.proofs.lines.write_part.Tie as tie

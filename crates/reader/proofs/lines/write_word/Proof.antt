@@ -1,7 +1,7 @@
 -- `reader::lines::write_word` meets its contract.
 -- Assumes nothing.
 use native.Mathlib.Omega.{arith}
-use Rattle.reader.proofs.LineLaws.{text-short, text-copied}
+use Rattle.reader.proofs.lines.Laws.{text-short, text-copied}
 use borrow.Author.Needs.{needs}
 use Rattle.reader.proofs.lines.write_word.Statement.{statement}
 use Rattle.reader.proofs.lines.write_word.Tie as tie

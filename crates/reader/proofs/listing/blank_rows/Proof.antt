@@ -1,6 +1,6 @@
 -- `reader::listing::blank_rows` meets its contract.
 -- Assumes nothing.
-use Rattle.reader.proofs.ListingLaws.{rows-blank}
+use Rattle.reader.proofs.listing.Laws.{rows-blank}
 use borrow.Author.Needs.{needs}
 use Rattle.reader.proofs.listing.blank_rows.Statement.{statement}
 use Rattle.reader.proofs.listing.blank_rows.Tie as tie

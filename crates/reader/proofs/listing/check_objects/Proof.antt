@@ -1,7 +1,7 @@
 -- `reader::listing::check_objects` meets its contract.
 -- Assumes nothing.
 use Prim.Native.Nat.{_-_}
-use Rattle.reader.proofs.ListingLaws.{Passing, passing-start, passing-fits, passing-turn, passing-stop, passing-last}
+use Rattle.reader.proofs.listing.Laws.{Passing, passing-start, passing-fits, passing-turn, passing-stop, passing-last}
 use borrow.Author.Needs.{needs}
 use Rattle.reader.proofs.listing.check_objects.Statement.{statement}
 use Rattle.reader.proofs.listing.check_objects.Tie as tie

@@ -1,6 +1,6 @@
 -- `reader::listing::count_of` meets its contract.
 -- Assumes nothing.
-use Rattle.reader.proofs.ListingLaws.{count-listed, count-refused}
+use Rattle.reader.proofs.listing.Laws.{count-listed, count-refused}
 use borrow.Author.Needs.{needs}
 use Rattle.reader.proofs.listing.count_of.Statement.{statement}
 use Rattle.reader.proofs.listing.count_of.Tie as tie

@@ -1,6 +1,6 @@
 -- `reader::listing::cursor_of` meets its contract.
 -- Assumes nothing.
-use Rattle.reader.proofs.ObjectLaws.{if-zero, if-other}
+use Rattle.reader.proofs.objects.Laws.{if-zero, if-other}
 use borrow.Author.Needs.{needs}
 use Rattle.reader.proofs.listing.cursor_of.Statement.{statement}
 use Rattle.reader.proofs.listing.cursor_of.Tie as tie

@@ -1,7 +1,7 @@
 -- `reader::listing::fill_region` meets its contract.
 -- Assumes nothing.
 use Prim.Native.Nat.{_-_}
-use Rattle.reader.proofs.IndexLaws.{Filling, filling-start, filling-has, filling-room, filling-entry, filling-place, filling-count, filling-next, filling-turn, filling-last}
+use Rattle.reader.proofs.listing.Index.{Filling, filling-start, filling-has, filling-room, filling-entry, filling-place, filling-count, filling-next, filling-turn, filling-last}
 use borrow.Author.Needs.{needs}
 use Rattle.reader.proofs.listing.fill_region.Statement.{statement}
 use Rattle.reader.proofs.listing.fill_region.Tie as tie

@@ -1,6 +1,6 @@
 -- `reader::listing::first_entry` meets its contract.
 -- Assumes nothing.
-use Rattle.reader.proofs.ObjectLaws.{if-zero, if-other}
+use Rattle.reader.proofs.objects.Laws.{if-zero, if-other}
 use borrow.Author.Needs.{needs}
 use Rattle.reader.proofs.listing.first_entry.Statement.{statement}
 use Rattle.reader.proofs.listing.first_entry.Tie as tie

@@ -1,6 +1,6 @@
 -- `reader::listing::first_step` meets its contract.
 -- Assumes nothing.
-use Rattle.reader.proofs.ListingLaws.{step-first, step-none}
+use Rattle.reader.proofs.listing.Laws.{step-first, step-none}
 use borrow.Author.Needs.{needs}
 use Rattle.reader.proofs.listing.first_step.Statement.{statement}
 use Rattle.reader.proofs.listing.first_step.Tie as tie

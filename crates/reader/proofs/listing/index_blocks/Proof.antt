@@ -1,6 +1,6 @@
 -- `reader::listing::index_blocks` meets its contract.
 -- Assumes nothing.
-use Rattle.reader.proofs.IndexLaws.{index-plan, index-filled, index-none}
+use Rattle.reader.proofs.listing.Index.{index-plan, index-filled, index-none}
 use borrow.Author.Needs.{needs}
 use Rattle.reader.proofs.listing.index_blocks.Statement.{statement}
 use Rattle.reader.proofs.listing.index_blocks.Tie as tie

@@ -62,7 +62,7 @@ use Rattle.text.specs.Replies.{lengthReplyOf}
 use Rattle.text.specs.declared.reply.LengthReply.{LengthReply}
 use Rattle.reader.specs.declared.listing.Step.{Step}
 use Rattle.reader.specs.declared.objects.ObjectRow.{ObjectRow}
-use Rattle.reader.proofs.ListingLaws.{filled, length-filled, fill-turn, written, written-within, Stepping, listed-first, listed-next, listed-to, listed}
+use Rattle.reader.proofs.listing.Laws.{filled, length-filled, fill-turn, written, written-within, Stepping, listed-first, listed-next, listed-to, listed}
 use Rattle.reader.proofs.objects.ObjectRow as T
 use Rattle.reader.proofs.objects.ObjectRow.Laws as T′
 use Rattle.reader.proofs.listing.Listing as X

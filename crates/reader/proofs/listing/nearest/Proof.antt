@@ -1,6 +1,6 @@
 -- `reader::listing::nearest` meets its contract.
 -- Assumes nothing.
-use Rattle.reader.proofs.IndexLaws.{near-here, rest-within, near-entry}
+use Rattle.reader.proofs.listing.Index.{near-here, rest-within, near-entry}
 use borrow.Author.Needs.{needs}
 use Rattle.reader.proofs.listing.nearest.Statement.{statement}
 use Rattle.reader.proofs.listing.nearest.Tie as tie

@@ -1,6 +1,6 @@
 -- `reader::listing::next_object` meets its contract.
 -- Assumes nothing.
-use Rattle.reader.proofs.ListingLaws.{next-fits, next-none, next-block, next-count, next-found}
+use Rattle.reader.proofs.listing.Laws.{next-fits, next-none, next-block, next-count, next-found}
 use borrow.Author.Needs.{needs}
 use Rattle.reader.proofs.listing.next_object.Statement.{statement}
 use Rattle.reader.proofs.listing.next_object.Tie as tie

@@ -1,6 +1,6 @@
 -- `reader::listing::plan_for` meets its contract.
 -- Assumes nothing.
-use Rattle.reader.proofs.IndexLaws.{plan-fits, plan-made}
+use Rattle.reader.proofs.listing.Index.{plan-fits, plan-made}
 use borrow.Author.Needs.{needs}
 use Rattle.reader.proofs.listing.plan_for.Statement.{statement}
 use Rattle.reader.proofs.listing.plan_for.Tie as tie

@@ -1,6 +1,6 @@
 -- `reader::listing::reply_of` meets its contract.
 -- Assumes nothing.
-use Rattle.reader.proofs.ListingLaws.{reply-listed, reply-refused}
+use Rattle.reader.proofs.listing.Laws.{reply-listed, reply-refused}
 use borrow.Author.Needs.{needs}
 use Rattle.reader.proofs.listing.reply_of.Statement.{statement}
 use Rattle.reader.proofs.listing.reply_of.Tie as tie

@@ -1,6 +1,6 @@
 -- `reader::listing::seek` meets its contract.
 -- Assumes nothing.
-use Rattle.reader.proofs.IndexLaws.{cursor-made, cursor-inside}
+use Rattle.reader.proofs.listing.Index.{cursor-made, cursor-inside}
 use borrow.Author.Needs.{needs}
 use Rattle.reader.proofs.listing.seek.Statement.{statement}
 use Rattle.reader.proofs.listing.seek.Tie as tie

@@ -1,6 +1,6 @@
 -- `reader::listing::seek_block` meets its contract.
 -- Assumes nothing.
-use Rattle.reader.proofs.IndexLaws.{block-near, near-has, block-found}
+use Rattle.reader.proofs.listing.Index.{block-near, near-has, block-found}
 use borrow.Author.Needs.{needs}
 use Rattle.reader.proofs.listing.seek_block.Statement.{statement}
 use Rattle.reader.proofs.listing.seek_block.Tie as tie

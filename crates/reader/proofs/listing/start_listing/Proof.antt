@@ -1,6 +1,6 @@
 -- `reader::listing::start_listing` meets its contract.
 -- Assumes nothing.
-use Rattle.reader.proofs.ListingLaws.{start-refused, start-failed, start-few, start-short, start-passed}
+use Rattle.reader.proofs.listing.Laws.{start-refused, start-failed, start-few, start-short, start-passed}
 use Rattle.reader.proofs.NameLaws.{parsed}
 use borrow.Author.Needs.{needs}
 use Rattle.reader.proofs.listing.start_listing.Statement.{statement}

@@ -2,7 +2,7 @@
 -- Assumes nothing.
 use Prim.Native.Nat.{_-_, _≤_}
 use Rattle.reader.specs.Names.{Counted}
-use Rattle.reader.proofs.PieceLaws.{count-more, count-last}
+use Rattle.reader.proofs.names.Pieces.{count-more, count-last}
 use borrow.Author.Needs.{needs}
 use Rattle.reader.proofs.names.count_pieces.Statement.{statement}
 use Rattle.reader.proofs.names.count_pieces.Tie as tie

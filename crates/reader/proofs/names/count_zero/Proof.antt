@@ -1,6 +1,6 @@
 -- `reader::names::count_zero` meets its contract.
 -- Assumes nothing.
-use Rattle.reader.proofs.PieceLaws.{count-zero, count-byte}
+use Rattle.reader.proofs.names.Pieces.{count-zero, count-byte}
 use borrow.Author.Needs.{needs}
 use Rattle.reader.proofs.names.count_zero.Statement.{statement}
 use Rattle.reader.proofs.names.count_zero.Tie as tie

@@ -2,7 +2,7 @@
 -- Assumes nothing.
 use Prim.Native.Nat.{_-_, _≤_}
 use Rattle.reader.specs.Names.{Counted}
-use Rattle.reader.proofs.PieceLaws.{count-none, count-more, count-end}
+use Rattle.reader.proofs.names.Pieces.{count-none, count-more, count-end}
 use borrow.Author.Needs.{needs}
 use Rattle.reader.proofs.names.count_zeros.Statement.{statement}
 use Rattle.reader.proofs.names.count_zeros.Tie as tie

@@ -1,6 +1,6 @@
 -- `reader::names::name_piece` meets its contract.
 -- Assumes nothing.
-use Rattle.reader.proofs.PieceLaws.{name-empty, name-found}
+use Rattle.reader.proofs.names.Pieces.{name-empty, name-found}
 use borrow.Author.Needs.{needs}
 use Rattle.reader.proofs.names.name_piece.Statement.{statement}
 use Rattle.reader.proofs.names.name_piece.Tie as tie

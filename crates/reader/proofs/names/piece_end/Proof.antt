@@ -1,7 +1,7 @@
 -- `reader::names::piece_end` meets its contract.
 -- Assumes nothing.
 use Prim.Native.Nat.{_-_}
-use Rattle.reader.proofs.PieceLaws.{Running, run-start, run-byte, run-zero, run-last}
+use Rattle.reader.proofs.names.Pieces.{Running, run-start, run-byte, run-zero, run-last}
 use borrow.Author.Needs.{needs}
 use Rattle.reader.proofs.names.piece_end.Statement.{statement}
 use Rattle.reader.proofs.names.piece_end.Tie as tie

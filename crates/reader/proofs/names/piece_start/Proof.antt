@@ -1,7 +1,7 @@
 -- `reader::names::piece_start` meets its contract.
 -- Assumes nothing.
 use Prim.Native.Nat.{_-_}
-use Rattle.reader.proofs.PieceLaws.{Seeking, piece-heap, first-starts, seek-start, seek-read, seek-less, seek-zero, seek-byte, seek-last}
+use Rattle.reader.proofs.names.Pieces.{Seeking, piece-heap, first-starts, seek-start, seek-read, seek-less, seek-zero, seek-byte, seek-last}
 use borrow.Author.Needs.{needs}
 use Rattle.reader.proofs.names.piece_start.Statement.{statement}
 use Rattle.reader.proofs.names.piece_start.Tie as tie

@@ -2,7 +2,7 @@
 -- Assumes nothing.
 use Prim.Native.Nat.{_-_}
 use Rattle.reader.specs.Names.{Skips}
-use Rattle.reader.proofs.PieceLaws.{count-none, count-more}
+use Rattle.reader.proofs.names.Pieces.{count-none, count-more}
 use borrow.Author.Needs.{needs}
 use Rattle.reader.proofs.names.skip_blocks.Statement.{statement}
 use Rattle.reader.proofs.names.skip_blocks.Tie as tie

@@ -1,6 +1,6 @@
 -- `reader::objects::block_of` meets its contract.
 -- Assumes nothing.
-use Rattle.reader.proofs.ObjectLaws.{block-normal, block-saved}
+use Rattle.reader.proofs.objects.Laws.{block-normal, block-saved}
 use borrow.Author.Needs.{needs}
 use Rattle.reader.proofs.objects.block_of.Statement.{statement}
 use Rattle.reader.proofs.objects.block_of.Tie as tie

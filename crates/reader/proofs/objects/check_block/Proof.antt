@@ -1,6 +1,6 @@
 -- `reader::objects::check_block` meets its contract.
 -- Assumes nothing.
-use Rattle.reader.proofs.ObjectLaws.{block-none, block-outside, block-inside}
+use Rattle.reader.proofs.objects.Laws.{block-none, block-outside, block-inside}
 use borrow.Author.Needs.{needs}
 use Rattle.reader.proofs.objects.check_block.Statement.{statement}
 use Rattle.reader.proofs.objects.check_block.Tie as tie

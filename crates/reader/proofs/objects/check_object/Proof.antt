@@ -1,6 +1,6 @@
 -- `reader::objects::check_object` meets its contract.
 -- Assumes nothing.
-use Rattle.reader.proofs.ObjectLaws.{id-zero, id-outside, id-inside}
+use Rattle.reader.proofs.objects.Laws.{id-zero, id-outside, id-inside}
 use borrow.Author.Needs.{needs}
 use Rattle.reader.proofs.objects.check_object.Statement.{statement}
 use Rattle.reader.proofs.objects.check_object.Tie as tie

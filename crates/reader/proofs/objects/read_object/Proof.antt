@@ -1,6 +1,6 @@
 -- `reader::objects::read_object` meets its contract.
 -- Assumes nothing.
-use Rattle.reader.proofs.ObjectLaws.{object-refused, object-none, object-has, count-inside, object-found}
+use Rattle.reader.proofs.objects.Laws.{object-refused, object-none, object-has, count-inside, object-found}
 use borrow.Author.Needs.{needs}
 use Rattle.reader.proofs.objects.read_object.Statement.{statement}
 use Rattle.reader.proofs.objects.read_object.Tie as tie

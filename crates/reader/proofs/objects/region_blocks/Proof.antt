@@ -1,6 +1,6 @@
 -- `reader::objects::region_blocks` meets its contract.
 -- Assumes nothing.
-use Rattle.reader.proofs.ObjectLaws.{if-zero, if-other}
+use Rattle.reader.proofs.objects.Laws.{if-zero, if-other}
 use borrow.Author.Needs.{needs}
 use Rattle.reader.proofs.objects.region_blocks.Statement.{statement}
 use Rattle.reader.proofs.objects.region_blocks.Tie as tie

@@ -1,6 +1,6 @@
 -- `reader::objects::region_start` meets its contract.
 -- Assumes nothing.
-use Rattle.reader.proofs.ObjectLaws.{if-zero, if-other}
+use Rattle.reader.proofs.objects.Laws.{if-zero, if-other}
 use borrow.Author.Needs.{needs}
 use Rattle.reader.proofs.objects.region_start.Statement.{statement}
 use Rattle.reader.proofs.objects.region_start.Tie as tie

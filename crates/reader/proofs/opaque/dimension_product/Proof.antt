@@ -4,7 +4,7 @@ use Prim.Native.Nat.{_-_}
 use native.Mathlib.Omega.{arith}
 use borrow.Author.Needs.{needs}
 use lib.ListN.{length}
-use Rattle.text.proofs.ProductLaws.{Multiplying, multiplies}
+use Rattle.text.proofs.convert.Products.{Multiplying, multiplies}
 use Rattle.reader.proofs.opaque.dimension_product.Statement.{statement}
 use Rattle.reader.proofs.opaque.dimension_product.Tie as tie
 

@@ -2,7 +2,7 @@
 -- Assumes nothing.
 use native.Mathlib.Omega.{arith}
 use borrow.Author.Needs.{needs}
-use Rattle.reader.proofs.OpaqueLaws.{opaque-outcomes}
+use Rattle.reader.proofs.opaque.Laws.{opaque-outcomes}
 use Rattle.reader.proofs.opaque.parse_opaque_metadata.Statement.{statement}
 use Rattle.reader.proofs.opaque.parse_opaque_metadata.Tie as tie
 

@@ -1,6 +1,6 @@
 -- `reader::properties::check_triple` meets its contract.
 -- Assumes nothing.
-use Rattle.reader.proofs.PropertyLaws.{triple-checks}
+use Rattle.reader.proofs.properties.Laws.{triple-checks}
 use borrow.Author.Needs.{needs}
 use Rattle.reader.proofs.properties.check_triple.Statement.{statement}
 use Rattle.reader.proofs.properties.check_triple.Tie as tie

@@ -1,6 +1,6 @@
 -- `reader::properties::check_triples` meets its contract.
 -- Assumes nothing.
-use Rattle.reader.proofs.PropertyLaws.{Checking, checking-start, checking-read, checking-turn, checking-stop, checking-last}
+use Rattle.reader.proofs.properties.Laws.{Checking, checking-start, checking-read, checking-turn, checking-stop, checking-last}
 use borrow.Author.Needs.{needs}
 use Rattle.reader.proofs.properties.check_triples.Statement.{statement}
 use Rattle.reader.proofs.properties.check_triples.Tie as tie

@@ -1,8 +1,8 @@
 -- `reader::properties::object_triples` meets its contract.
 -- Assumes nothing.
 use Rattle.reader.proofs.NameLaws.{parsed}
-use Rattle.reader.proofs.ObjectLaws.{id-below}
-use Rattle.reader.proofs.PropertyLaws.{triples-refused, triples-failed, triples-read}
+use Rattle.reader.proofs.objects.Laws.{id-below}
+use Rattle.reader.proofs.properties.Laws.{triples-refused, triples-failed, triples-read}
 use borrow.Author.Needs.{needs}
 use Rattle.reader.proofs.properties.object_triples.Statement.{statement}
 use Rattle.reader.proofs.properties.object_triples.Tie as tie

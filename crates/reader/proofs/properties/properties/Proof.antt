@@ -1,6 +1,6 @@
 -- `reader::properties::properties` meets its contract.
 -- Assumes nothing.
-use Rattle.reader.proofs.PropertyLaws.{rows-refused, rows-inside, rows-short, rows-written}
+use Rattle.reader.proofs.properties.Laws.{rows-refused, rows-inside, rows-short, rows-written}
 use borrow.Author.Needs.{needs}
 use Rattle.reader.proofs.properties.properties.Statement.{statement}
 use Rattle.reader.proofs.properties.properties.Tie as tie

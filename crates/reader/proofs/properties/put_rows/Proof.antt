@@ -1,7 +1,7 @@
 -- `reader::properties::put_rows` meets its contract.
 -- Assumes nothing.
 use Prim.Native.Nat.{_-_}
-use Rattle.reader.proofs.PropertyLaws.{Filling, fill-start, fill-length, fill-room, fill-read, fill-turn, fill-last}
+use Rattle.reader.proofs.properties.Laws.{Filling, fill-start, fill-length, fill-room, fill-read, fill-turn, fill-last}
 use borrow.Author.Needs.{needs}
 use Rattle.reader.proofs.properties.put_rows.Statement.{statement}
 use Rattle.reader.proofs.properties.put_rows.Tie as tie

@@ -1,6 +1,6 @@
 -- `reader::properties::record_triples` meets its contract.
 -- Assumes nothing.
-use Rattle.reader.proofs.PropertyLaws.{record-refused, triples-inside, triples-fit, record-failed, record-passed}
+use Rattle.reader.proofs.properties.Laws.{record-refused, triples-inside, triples-fit, record-failed, record-passed}
 use borrow.Author.Needs.{needs}
 use Rattle.reader.proofs.properties.record_triples.Statement.{statement}
 use Rattle.reader.proofs.properties.record_triples.Tie as tie

@@ -1,7 +1,7 @@
 -- `reader::saveobj::check_outputs` meets its contract.
 -- Assumes nothing.
 use borrow.Author.Needs.{needs}
-use Rattle.reader.proofs.PayloadLaws.{outputs-text, outputs-spans, outputs-fit}
+use Rattle.reader.proofs.saveobj.Payload.{outputs-text, outputs-spans, outputs-fit}
 use Rattle.reader.proofs.saveobj.check_outputs.Statement.{statement}
 use Rattle.reader.proofs.saveobj.check_outputs.Tie as tie
 

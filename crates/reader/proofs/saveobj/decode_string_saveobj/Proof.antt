@@ -1,7 +1,7 @@
 -- `reader::saveobj::decode_string_saveobj` meets its contract.
 -- Assumes nothing.
 use borrow.Author.Needs.{needs}
-use Rattle.reader.proofs.PayloadLaws.{decode-refused, decode-values, decode-short, decode-fits, decode-written}
+use Rattle.reader.proofs.saveobj.Payload.{decode-refused, decode-values, decode-short, decode-fits, decode-written}
 use Rattle.reader.proofs.saveobj.decode_string_saveobj.Statement.{statement}
 use Rattle.reader.proofs.saveobj.decode_string_saveobj.Tie as tie
 

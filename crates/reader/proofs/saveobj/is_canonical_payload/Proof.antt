@@ -2,7 +2,7 @@
 -- Assumes nothing.
 use Prim.Native.Nat.{_-_}
 use borrow.Author.Needs.{needs}
-use Rattle.reader.proofs.CanonicalPayloadLaws.{Scanning, canonical-refused, canonical-spare, packed-start, packed-inside, packed-fits, scan-start, scan-there, scan-stop, scan-turn, scan-checked, scan-unpaired, scan-last}
+use Rattle.reader.proofs.saveobj.Canonical.{Scanning, canonical-refused, canonical-spare, packed-start, packed-inside, packed-fits, scan-start, scan-there, scan-stop, scan-turn, scan-checked, scan-unpaired, scan-last}
 use Rattle.reader.proofs.saveobj.is_canonical_payload.Statement.{statement}
 use Rattle.reader.proofs.saveobj.is_canonical_payload.Tie as tie
 

@@ -1,7 +1,7 @@
 -- `reader::saveobj::measure_payload` meets its contract.
 -- Assumes nothing.
 use borrow.Author.Needs.{needs}
-use Rattle.reader.proofs.PayloadLaws.{measure-refused, measure-checked, measure-strings}
+use Rattle.reader.proofs.saveobj.Payload.{measure-refused, measure-checked, measure-strings}
 use Rattle.reader.proofs.saveobj.measure_payload.Statement.{statement}
 use Rattle.reader.proofs.saveobj.measure_payload.Tie as tie
 

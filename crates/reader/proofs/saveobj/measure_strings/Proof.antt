@@ -2,7 +2,7 @@
 -- Assumes nothing.
 use Prim.Native.Nat.{_-_}
 use borrow.Author.Needs.{needs}
-use Rattle.reader.proofs.StringLaws.{Measuring, Within, measure-start, string-end, string-start, unit-there, next-there, bytes-fit, measures, measure-3, measure-4, string-last, measure-last}
+use Rattle.reader.proofs.saveobj.Strings.{Measuring, Within, measure-start, string-end, string-start, unit-there, next-there, bytes-fit, measures, measure-3, measure-4, string-last, measure-last}
 use Rattle.reader.proofs.saveobj.measure_strings.Statement.{statement}
 use Rattle.reader.proofs.saveobj.measure_strings.Tie as tie
 

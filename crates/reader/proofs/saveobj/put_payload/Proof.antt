@@ -1,7 +1,7 @@
 -- `reader::saveobj::put_payload` meets its contract.
 -- Assumes nothing.
 use borrow.Author.Needs.{needs}
-use Rattle.reader.proofs.PayloadLaws.{put-fits, put-index, put-writes, put-never}
+use Rattle.reader.proofs.saveobj.Payload.{put-fits, put-index, put-writes, put-never}
 use Rattle.reader.proofs.saveobj.put_payload.Statement.{statement}
 use Rattle.reader.proofs.saveobj.put_payload.Tie as tie
 

@@ -2,7 +2,7 @@
 -- Assumes nothing.
 use Prim.Native.Nat.{_-_}
 use borrow.Author.Needs.{needs}
-use Rattle.reader.proofs.StringLaws.{Writing, write-start, write-fits, write-slot, write-unit, write-turn, write-last}
+use Rattle.reader.proofs.saveobj.Strings.{Writing, write-start, write-fits, write-slot, write-unit, write-turn, write-last}
 use Rattle.reader.proofs.saveobj.put_strings.Statement.{statement}
 use Rattle.reader.proofs.saveobj.put_strings.Tie as tie
 

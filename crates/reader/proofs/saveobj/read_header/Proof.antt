@@ -2,7 +2,7 @@
 -- Assumes nothing.
 use mathlib.Core.Logic.{⊎-elim}
 use borrow.Author.Needs.{needs}
-use Rattle.reader.proofs.HeaderLaws.{header-short, header-long, header-outcomes}
+use Rattle.reader.proofs.saveobj.Header.{header-short, header-long, header-outcomes}
 use Rattle.reader.proofs.saveobj.read_header.Statement.{statement}
 use Rattle.reader.proofs.saveobj.read_header.Tie as tie
 

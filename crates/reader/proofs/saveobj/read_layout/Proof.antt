@@ -1,7 +1,7 @@
 -- `reader::saveobj::read_layout` meets its contract.
 -- Assumes nothing.
 use borrow.Author.Needs.{needs}
-use Rattle.reader.proofs.PayloadLaws.{header-inside, header-fits, layout-outcomes}
+use Rattle.reader.proofs.saveobj.Payload.{header-inside, header-fits, layout-outcomes}
 use Rattle.reader.proofs.saveobj.read_layout.Statement.{statement}
 use Rattle.reader.proofs.saveobj.read_layout.Tie as tie
 

@@ -2,7 +2,7 @@
 -- Assumes nothing.
 use Prim.Native.Nat.{_-_}
 use borrow.Author.Needs.{needs}
-use Rattle.reader.proofs.LengthLaws.{Summing, sum-start, sum-turn, sum-stop, sum-last}
+use Rattle.reader.proofs.saveobj.Lengths.{Summing, sum-start, sum-turn, sum-stop, sum-last}
 use Rattle.reader.proofs.saveobj.sum_lengths.Statement.{statement}
 use Rattle.reader.proofs.saveobj.sum_lengths.Tie as tie
 

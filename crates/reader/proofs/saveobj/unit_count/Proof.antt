@@ -1,7 +1,7 @@
 -- `reader::saveobj::unit_count` meets its contract.
 -- Assumes nothing.
 use borrow.Author.Needs.{needs}
-use Rattle.reader.proofs.LengthLaws.{count-missing, count-given}
+use Rattle.reader.proofs.saveobj.Lengths.{count-missing, count-given}
 use Rattle.reader.proofs.saveobj.unit_count.Statement.{statement}
 use Rattle.reader.proofs.saveobj.unit_count.Tie as tie
 

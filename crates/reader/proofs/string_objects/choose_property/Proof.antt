@@ -1,6 +1,6 @@
 -- `reader::string_objects::choose_property` meets its contract.
 -- Assumes nothing.
-use Rattle.reader.proofs.StringObjectLaws.{choose-none, choose-passed, choose-first-inside, choose-first, choose-multiple, choose-sum, choose-inside, choose-named, choose-refused}
+use Rattle.reader.proofs.string_objects.Laws.{choose-none, choose-passed, choose-first-inside, choose-first, choose-multiple, choose-sum, choose-inside, choose-named, choose-refused}
 use borrow.Author.Needs.{needs}
 use Rattle.reader.proofs.string_objects.choose_property.Statement.{statement}
 use Rattle.reader.proofs.string_objects.choose_property.Tie as tie

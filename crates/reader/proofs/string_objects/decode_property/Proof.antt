@@ -1,7 +1,7 @@
 -- `reader::string_objects::decode_property` meets its contract.
 -- Assumes nothing.
-use Rattle.reader.proofs.CellLaws.{found}
-use Rattle.reader.proofs.StringObjectLaws.{property-other, property-refused, property-decoded}
+use Rattle.reader.proofs.cells.Laws.{found}
+use Rattle.reader.proofs.string_objects.Laws.{property-other, property-refused, property-decoded}
 use borrow.Author.Needs.{needs}
 use Rattle.reader.proofs.string_objects.decode_property.Statement.{statement}
 use Rattle.reader.proofs.string_objects.decode_property.Tie as tie

@@ -1,6 +1,6 @@
 -- `reader::string_objects::decode_string_object` meets its contract.
 -- Assumes nothing.
-use Rattle.reader.proofs.StringObjectLaws.{object-directory, object-checked, object-decoded, object-empty, object-failed, object-refused}
+use Rattle.reader.proofs.string_objects.Laws.{object-directory, object-checked, object-decoded, object-empty, object-failed, object-refused}
 use borrow.Author.Needs.{needs}
 use Rattle.reader.proofs.NameLaws.{parsed}
 use Rattle.reader.proofs.string_objects.decode_string_object.Statement.{statement}

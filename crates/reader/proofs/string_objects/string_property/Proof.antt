@@ -1,7 +1,7 @@
 -- `reader::string_objects::string_property` meets its contract.
 -- Assumes nothing.
-use Rattle.reader.proofs.ObjectLaws.{id-below}
-use Rattle.reader.proofs.StringObjectLaws.{property-failed, property-class, property-chosen}
+use Rattle.reader.proofs.objects.Laws.{id-below}
+use Rattle.reader.proofs.string_objects.Laws.{property-failed, property-class, property-chosen}
 use borrow.Author.Needs.{needs}
 use Rattle.reader.proofs.string_objects.string_property.Statement.{statement}
 use Rattle.reader.proofs.string_objects.string_property.Tie as tie

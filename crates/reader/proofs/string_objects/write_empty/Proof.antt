@@ -1,6 +1,6 @@
 -- `reader::string_objects::write_empty` meets its contract.
 -- Assumes nothing.
-use Rattle.reader.proofs.StringObjectLaws.{empty-short, empty-written}
+use Rattle.reader.proofs.string_objects.Laws.{empty-short, empty-written}
 use borrow.Author.Needs.{needs}
 use Rattle.reader.proofs.string_objects.write_empty.Statement.{statement}
 use Rattle.reader.proofs.string_objects.write_empty.Tie as tie

@@ -1,7 +1,7 @@
 -- `reader::units::is_packed` meets its contract.
 -- Assumes nothing.
 use borrow.Author.Needs.{needs}
-use Rattle.reader.proofs.UnitLaws.{packed-not, packed-full, packed-last}
+use Rattle.reader.proofs.units.Laws.{packed-not, packed-full, packed-last}
 use Rattle.reader.proofs.units.is_packed.Statement.{statement}
 use Rattle.reader.proofs.units.is_packed.Tie as tie
 

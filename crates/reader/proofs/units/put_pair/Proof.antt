@@ -3,7 +3,7 @@
 use native.Mathlib.Omega.{arith}
 use borrow.Author.Needs.{needs}
 use lib.ListN.{length-set}
-use Rattle.reader.proofs.TextLaws.{pair-puts}
+use Rattle.reader.proofs.units.Text.{pair-puts}
 use Rattle.reader.proofs.units.put_pair.Statement.{statement}
 use Rattle.reader.proofs.units.put_pair.Tie as tie
 

@@ -3,7 +3,7 @@
 use Prim.Native.Nat.{_+_, _-_}
 use native.Mathlib.Omega.{arith}
 use borrow.Author.Needs.{needs}
-use Rattle.reader.proofs.TextLaws.{Writing, write-start, ascii-room, ascii-turn, two-fit, two-turn, three-fit, three-turn, pair-there, pair-fits, pair-index, pair-turn, write-last}
+use Rattle.reader.proofs.units.Text.{Writing, write-start, ascii-room, ascii-turn, two-fit, two-turn, three-fit, three-turn, pair-there, pair-fits, pair-index, pair-turn, write-last}
 use Rattle.reader.proofs.units.put_text.Statement.{statement}
 use Rattle.reader.proofs.units.put_text.Tie as tie
 

@@ -3,7 +3,7 @@
 use native.Mathlib.Omega.{arith}
 use borrow.Author.Needs.{needs}
 use lib.ListN.{length-set}
-use Rattle.reader.proofs.TextLaws.{three-puts}
+use Rattle.reader.proofs.units.Text.{three-puts}
 use Rattle.reader.proofs.units.put_three.Statement.{statement}
 use Rattle.reader.proofs.units.put_three.Tie as tie
 

@@ -3,7 +3,7 @@
 use native.Mathlib.Omega.{arith}
 use borrow.Author.Needs.{needs}
 use lib.ListN.{length-set}
-use Rattle.reader.proofs.TextLaws.{two-puts}
+use Rattle.reader.proofs.units.Text.{two-puts}
 use Rattle.reader.proofs.units.put_two.Statement.{statement}
 use Rattle.reader.proofs.units.put_two.Tie as tie
 

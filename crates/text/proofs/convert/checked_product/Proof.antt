@@ -3,7 +3,7 @@
 use Prim.Native.Nat.{_-_}
 use borrow.Author.Needs.{needs}
 use lib.ListN.{length}
-use Rattle.text.proofs.ProductLaws.{Multiplying, multiplies}
+use Rattle.text.proofs.convert.Products.{Multiplying, multiplies}
 use Rattle.text.proofs.convert.checked_product.Statement.{statement}
 use Rattle.text.proofs.convert.checked_product.Tie as tie
 

@@ -1,7 +1,7 @@
 -- `text::convert::product_fits` meets its contract.
 -- Assumes nothing.
 use borrow.Author.Needs.{needs}
-use Rattle.text.proofs.ProductLaws.{fits-zero, fits-divided}
+use Rattle.text.proofs.convert.Products.{fits-zero, fits-divided}
 use Rattle.text.proofs.convert.product_fits.Statement.{statement}
 use Rattle.text.proofs.convert.product_fits.Tie as tie
 

@@ -3,7 +3,7 @@
 use Prim.Native.Nat.{_-_}
 use borrow.Author.Needs.{needs}
 use lib.ListN.{length}
-use Rattle.text.proofs.CopyLaws.{Copying, copies}
+use Rattle.text.proofs.copy.Laws.{Copying, copies}
 use Rattle.text.proofs.copy.copy_bytes.Statement.{statement}
 use Rattle.text.proofs.copy.copy_bytes.Tie as tie
 

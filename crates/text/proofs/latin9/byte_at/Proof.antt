@@ -1,7 +1,7 @@
 -- `text::latin9::byte_at` meets its contract: a law for each size.
 -- Assumes nothing.
 use borrow.Author.Needs.{needs}
-use Rattle.text.proofs.ExportLaws.{two-bytes, three-bytes, four-bytes}
+use Rattle.text.proofs.latin9.Export.{two-bytes, three-bytes, four-bytes}
 use Rattle.text.proofs.latin9.byte_at.Statement.{statement}
 use Rattle.text.proofs.latin9.byte_at.Tie as tie
 

@@ -4,7 +4,7 @@ use mathlib.Core.Path.{_∙_, sym}
 use native.Mathlib.Omega.{arith}
 use borrow.Author.Needs.{needs}
 use Rattle.text.specs.Latin9.{exceptions}
-use Rattle.text.proofs.ExportLaws.{own-byte, no-byte, listed-byte}
+use Rattle.text.proofs.latin9.Export.{own-byte, no-byte, listed-byte}
 use Rattle.text.proofs.Latin9Laws.{point-cases, high-none}
 use Rattle.text.proofs.latin9.byte_of.Statement.{statement}
 use Rattle.text.proofs.latin9.byte_of.Tie as tie

@@ -1,7 +1,7 @@
 -- `text::latin9::export_latin9` meets its contract.
 -- Assumes nothing.
 use borrow.Author.Needs.{needs}
-use Rattle.text.proofs.ExportLaws.{export-refused, export-short, export-fits, export-written, export-own}
+use Rattle.text.proofs.latin9.Export.{export-refused, export-short, export-fits, export-written, export-own}
 use Rattle.text.proofs.latin9.export_latin9.Statement.{statement}
 use Rattle.text.proofs.latin9.export_latin9.Tie as tie
 

@@ -3,7 +3,7 @@
 use Prim.Native.Nat.{_-_}
 use borrow.Author.Needs.{needs}
 use lib.ListN.{length}
-use Rattle.text.proofs.ExportLaws.{Measuring, measure-start, measure-ascii, measure-broken, measure-stands, measure-less, measure-byte, measure-unmappable, measure-late, measure-last}
+use Rattle.text.proofs.latin9.Export.{Measuring, measure-start, measure-ascii, measure-broken, measure-stands, measure-less, measure-byte, measure-unmappable, measure-late, measure-last}
 use Rattle.text.proofs.Latin9Laws.{ascii-export}
 use Rattle.text.proofs.latin9.export_length.Statement.{statement}
 use Rattle.text.proofs.latin9.export_length.Tie as tie

@@ -4,7 +4,7 @@ use mathlib.Core.Logic.{⊎-elim, inl, inr}
 use mathlib.Core.Path.{_≡_, refl}
 use native.Mathlib.Omega.{arith}
 use Rattle.text.specs.Latin9.{exceptions, pointIn, codePoint}
-use Rattle.text.proofs.ExportLaws.{does-not, does}
+use Rattle.text.proofs.latin9.Export.{does-not, does}
 use Rattle.text.proofs.Latin9Laws.{point-own}
 use Rattle.text.proofs.TestLaws.{equal-or}
 use Rattle.text.proofs.latin9.gave_way.Statement.{statement}

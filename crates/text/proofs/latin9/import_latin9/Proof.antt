@@ -3,7 +3,7 @@
 use mathlib.Core.Path.{refl}
 use borrow.Author.Needs.{needs}
 use Rattle.text.specs.Latin9.{exceptions, pointIn, codePoint}
-use Rattle.text.proofs.ImportLaws.{import-refused, import-room, import-written, import-own}
+use Rattle.text.proofs.latin9.Import.{import-refused, import-room, import-written, import-own}
 use Rattle.text.proofs.Latin9Laws.{table-is}
 use Rattle.text.proofs.latin9.import_latin9.Statement.{statement}
 use Rattle.text.proofs.latin9.import_latin9.Tie as tie

@@ -1,7 +1,7 @@
 -- `text::latin9::import_length` meets its contract.
 -- Assumes nothing.
 use borrow.Author.Needs.{needs}
-use Rattle.text.proofs.ImportLaws.{measured-past, measured-short, measured-fits}
+use Rattle.text.proofs.latin9.Import.{measured-past, measured-short, measured-fits}
 use Rattle.text.proofs.latin9.import_length.Statement.{statement}
 use Rattle.text.proofs.latin9.import_length.Tie as tie
 

@@ -2,7 +2,7 @@
 -- Assumes nothing.
 use native.Mathlib.Omega.{arith}
 use borrow.Author.Tests.{lt-ltb, le-ltb, eq-eqb, ne-eqb}
-use Rattle.text.proofs.ImportLaws.{character-size}
+use Rattle.text.proofs.latin9.Import.{character-size}
 use Rattle.text.proofs.latin9.more_bytes.Statement.{statement}
 use Rattle.text.proofs.latin9.more_bytes.Tie as tie
 

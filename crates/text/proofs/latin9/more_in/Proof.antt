@@ -3,7 +3,7 @@
 use Prim.Native.Nat.{_-_}
 use borrow.Author.Needs.{needs}
 use lib.ListN.{length}
-use Rattle.text.proofs.ImportLaws.{Measuring, measure-start, measure-turn, measure-last}
+use Rattle.text.proofs.latin9.Import.{Measuring, measure-start, measure-turn, measure-last}
 use Rattle.text.proofs.Latin9Laws.{ascii-import}
 use Rattle.text.proofs.latin9.more_in.Statement.{statement}
 use Rattle.text.proofs.latin9.more_in.Tie as tie

@@ -4,7 +4,7 @@ use Prim.Native.Nat.{_-_}
 use native.Mathlib.Omega.{arith}
 use borrow.Author.Needs.{needs}
 use lib.ListN.{length}
-use Rattle.text.proofs.ExportLaws.{Writing, write-start, write-room, write-ascii, write-stands, write-less, write-byte, write-never, write-last}
+use Rattle.text.proofs.latin9.Export.{Writing, write-start, write-room, write-ascii, write-stands, write-less, write-byte, write-never, write-last}
 use Rattle.text.proofs.latin9.put_export.Statement.{statement}
 use Rattle.text.proofs.latin9.put_export.Tie as tie
 

@@ -3,7 +3,7 @@
 use Prim.Native.Nat.{_-_}
 use borrow.Author.Needs.{needs}
 use lib.ListN.{length}
-use Rattle.text.proofs.ImportLaws.{Writing, write-start, write-own-room, write-own, write-top, write-room, write-turn, write-last}
+use Rattle.text.proofs.latin9.Import.{Writing, write-start, write-own-room, write-own, write-top, write-room, write-turn, write-last}
 use Rattle.text.proofs.latin9.put_import.Statement.{statement}
 use Rattle.text.proofs.latin9.put_import.Tie as tie
 

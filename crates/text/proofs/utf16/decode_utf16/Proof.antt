@@ -1,7 +1,7 @@
 -- `text::utf16::decode_utf16` meets its contract.
 -- Assumes nothing.
 use borrow.Author.Needs.{needs}
-use Rattle.text.proofs.DecodeLaws.{decode-short, decode-fits, decode-written, decode-unpaired}
+use Rattle.text.proofs.utf16.Decode.{decode-short, decode-fits, decode-written, decode-unpaired}
 use Rattle.text.proofs.utf16.decode_utf16.Statement.{statement}
 use Rattle.text.proofs.utf16.decode_utf16.Tie as tie
 

@@ -4,7 +4,7 @@ use Prim.Native.Nat.{_-_}
 use native.Mathlib.Omega.{arith}
 use borrow.Author.Needs.{needs}
 use lib.ListN.{length}
-use Rattle.text.proofs.DecodeLaws.{reads-start, step-less, Writing, write-start, write-top, write-room, write-turn, write-never, write-last}
+use Rattle.text.proofs.utf16.Decode.{reads-start, step-less, Writing, write-start, write-top, write-room, write-turn, write-never, write-last}
 use Rattle.text.proofs.utf16.put_text.Statement.{statement}
 use Rattle.text.proofs.utf16.put_text.Tie as tie
 

@@ -1,7 +1,7 @@
 -- `text::utf16::step_at` meets its contract.
 -- Assumes nothing.
 use borrow.Author.Needs.{needs}
-use Rattle.text.proofs.DecodeLaws.{step-below}
+use Rattle.text.proofs.utf16.Decode.{step-below}
 use Rattle.text.proofs.utf16.step_at.Statement.{statement}
 use Rattle.text.proofs.utf16.step_at.Tie as tie
 

@@ -4,7 +4,7 @@ use Prim.Native.Nat.{_-_}
 use native.Mathlib.Omega.{arith}
 use borrow.Author.Needs.{needs}
 use lib.ListN.{length}
-use Rattle.text.proofs.DecodeLaws.{reads-start, step-less, Measuring, measure-start, measure-size, measure-stop, measure-last}
+use Rattle.text.proofs.utf16.Decode.{reads-start, step-less, Measuring, measure-start, measure-size, measure-stop, measure-last}
 use Rattle.text.proofs.utf16.text_length.Statement.{statement}
 use Rattle.text.proofs.utf16.text_length.Tie as tie
 

@@ -2,7 +2,7 @@
 -- Assumes nothing.
 use mathlib.Core.Logic.{⊎-elim}
 use borrow.Author.Needs.{needs}
-use Rattle.text.proofs.DecodeLaws.{step-below, step-above, step-low-first, step-last, step-under, step-over, step-pair}
+use Rattle.text.proofs.utf16.Decode.{step-below, step-above, step-low-first, step-last, step-under, step-over, step-pair}
 use Rattle.text.proofs.utf16.unit_step.Statement.{statement}
 use Rattle.text.proofs.utf16.unit_step.Tie as tie
 

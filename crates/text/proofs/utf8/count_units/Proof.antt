@@ -3,7 +3,7 @@
 use native.Mathlib.Omega.{arith}
 use borrow.Author.Needs.{needs}
 use Rattle.text.proofs.AsciiLaws.{ascii-counts}
-use Rattle.text.proofs.CountLaws.{Counting, count-start, count-ascii, count-whole, count-stop, count-last}
+use Rattle.text.proofs.utf8.Count.{Counting, count-start, count-ascii, count-whole, count-stop, count-last}
 use Rattle.text.proofs.PartLaws.{left}
 use Rattle.text.proofs.utf8.count_units.Statement.{statement}
 use Rattle.text.proofs.utf8.count_units.Tie as tie

@@ -1,7 +1,7 @@
 -- `text::utf8::has_second` meets its contract.
 -- Assumes nothing.
 use borrow.Author.Needs.{needs}
-use Rattle.text.proofs.SizeLaws.{second-by}
+use Rattle.text.proofs.utf8.Size.{second-by}
 use Rattle.text.proofs.utf8.has_second.Statement.{statement}
 use Rattle.text.proofs.utf8.has_second.Tie as tie
 

@@ -1,7 +1,7 @@
 -- `text::utf8::is_text_from` meets its contract: the laws of its loop answer each need.
 -- Assumes nothing.
 use borrow.Author.Needs.{needs}
-use Rattle.text.proofs.ExportLaws.{Checking, check-start, check-ascii, check-whole, check-broken, check-last}
+use Rattle.text.proofs.latin9.Export.{Checking, check-start, check-ascii, check-whole, check-broken, check-last}
 use Rattle.text.proofs.PartLaws.{left}
 use Rattle.text.proofs.utf8.is_text_from.Statement.{statement}
 use Rattle.text.proofs.utf8.is_text_from.Tie as tie

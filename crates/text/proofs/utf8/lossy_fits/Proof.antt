@@ -1,7 +1,7 @@
 -- `text::utf8::lossy_fits` meets its contract.
 -- Assumes nothing.
 use borrow.Author.Needs.{needs}
-use Rattle.text.proofs.LossyLaws.{fits-thrice, fits-measured, fits-never}
+use Rattle.text.proofs.utf8.Lossy.{fits-thrice, fits-measured, fits-never}
 use Rattle.text.proofs.utf8.lossy_fits.Statement.{statement}
 use Rattle.text.proofs.utf8.lossy_fits.Tie as tie
 

@@ -1,7 +1,7 @@
 -- `text::utf8::lossy_length` meets its contract.
 -- Assumes nothing.
 use borrow.Author.Needs.{needs}
-use Rattle.text.proofs.LossyLaws.{length-kept, first-broken}
+use Rattle.text.proofs.utf8.Lossy.{length-kept, first-broken}
 use Rattle.text.proofs.utf8.lossy_length.Statement.{statement}
 use Rattle.text.proofs.utf8.lossy_length.Tie as tie
 

@@ -2,7 +2,7 @@
 -- Assumes nothing.
 use borrow.Author.Needs.{needs}
 use Rattle.text.proofs.BufferLaws.{placed-past}
-use Rattle.text.proofs.LossyLaws.{lossy-kept, lossy-inside, lossy-placed}
+use Rattle.text.proofs.utf8.Lossy.{lossy-kept, lossy-inside, lossy-placed}
 use Rattle.text.proofs.utf8.put_lossy.Statement.{statement}
 use Rattle.text.proofs.utf8.put_lossy.Tie as tie
 

@@ -1,7 +1,7 @@
 -- `text::utf8::put_repaired` meets its contract: the laws of its loop answer each need.
 -- Assumes nothing.
 use borrow.Author.Needs.{needs}
-use Rattle.text.proofs.LossyLaws.{Writing, write-start, scalar-top, scalar-room, write-scalar, replacement-room, write-replacement, write-last}
+use Rattle.text.proofs.utf8.Lossy.{Writing, write-start, scalar-top, scalar-room, write-scalar, replacement-room, write-replacement, write-last}
 use Rattle.text.proofs.PartLaws.{left, less}
 use Rattle.text.proofs.utf8.put_repaired.Statement.{statement}
 use Rattle.text.proofs.utf8.put_repaired.Tie as tie

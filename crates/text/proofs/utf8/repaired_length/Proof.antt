@@ -3,7 +3,7 @@
 use mathlib.Core.Logic.{⊎-elim}
 use Rattle.text.proofs.PartLaws.{left, ill-formed-after, less}
 use borrow.Author.Needs.{needs}
-use Rattle.text.proofs.LossyLaws.{Measuring, measure-from, measure-ascii, measure-whole, measure-ill-formed, measure-over, measure-last, end-over, end-last}
+use Rattle.text.proofs.utf8.Lossy.{Measuring, measure-from, measure-ascii, measure-whole, measure-ill-formed, measure-over, measure-last, end-over, end-last}
 use Rattle.text.proofs.utf8.repaired_length.Statement.{statement}
 use Rattle.text.proofs.utf8.repaired_length.Tie as tie
 

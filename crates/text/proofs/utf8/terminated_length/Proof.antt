@@ -2,7 +2,7 @@
 -- Assumes nothing.
 use borrow.Author.Needs.{needs}
 use Rattle.text.proofs.PartLaws.{left}
-use Rattle.text.proofs.TerminatedLaws.{Ending, ending-start, ending-ascii, ending-whole, ending-broken, ending-zero, ending-last}
+use Rattle.text.proofs.utf8.Terminated.{Ending, ending-start, ending-ascii, ending-whole, ending-broken, ending-zero, ending-last}
 use Rattle.text.proofs.utf8.terminated_length.Statement.{statement}
 use Rattle.text.proofs.utf8.terminated_length.Tie as tie
 

@@ -1,6 +1,6 @@
 -- `text::utf8::validate` meets its contract.
 -- Assumes nothing.
-use Rattle.text.proofs.CountLaws.{valid-units, valid-place}
+use Rattle.text.proofs.utf8.Count.{valid-units, valid-place}
 use borrow.Author.Needs.{needs}
 use Rattle.text.proofs.utf8.validate.Statement.{statement}
 use Rattle.text.proofs.utf8.validate.Tie as tie

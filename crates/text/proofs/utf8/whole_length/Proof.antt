@@ -1,7 +1,7 @@
 -- `text::utf8::whole_length` meets its contract: a law for each return.
 -- Assumes nothing.
 use borrow.Author.Needs.{needs}
-use Rattle.text.proofs.SizeLaws.{sizes}
+use Rattle.text.proofs.utf8.Size.{sizes}
 use Rattle.text.proofs.utf8.whole_length.Statement.{statement}
 use Rattle.text.proofs.utf8.whole_length.Tie as tie
 

@@ -1,7 +1,7 @@
 -- `text::utf8::write_lossy` meets its contract.
 -- Assumes nothing.
 use native.Mathlib.Omega.{arith}
-use Rattle.text.proofs.LossyLaws.{lossy-short, lossy-own, lossy-room, lossy-written, lossy-past}
+use Rattle.text.proofs.utf8.Lossy.{lossy-short, lossy-own, lossy-room, lossy-written, lossy-past}
 use borrow.Author.Needs.{needs}
 use Rattle.text.proofs.utf8.write_lossy.Statement.{statement}
 use Rattle.text.proofs.utf8.write_lossy.Tie as tie

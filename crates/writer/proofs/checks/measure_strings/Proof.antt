@@ -2,7 +2,7 @@
 -- Assumes nothing.
 use Prim.Native.Nat.{_-_}
 use borrow.Author.Needs.{needs}
-use Rattle.writer.proofs.MeasureLaws.{Measuring, measure-start, measure-fits, measure-turn, measure-stop, measure-last}
+use Rattle.writer.proofs.checks.Measure.{Measuring, measure-start, measure-fits, measure-turn, measure-stop, measure-last}
 use Rattle.writer.proofs.checks.measure_strings.Statement.{statement}
 use Rattle.writer.proofs.checks.measure_strings.Tie as tie
 

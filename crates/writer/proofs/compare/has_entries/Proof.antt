@@ -2,7 +2,7 @@
 -- Assumes nothing.
 use Prim.Native.Nat.{_-_}
 use borrow.Author.Needs.{needs}
-use Rattle.writer.proofs.CompareLaws.{Comparing, comparing-start, comparing-room, comparing-turn, comparing-stop, comparing-last}
+use Rattle.writer.proofs.compare.Laws.{Comparing, comparing-start, comparing-room, comparing-turn, comparing-stop, comparing-last}
 use Rattle.writer.proofs.compare.has_entries.Statement.{statement}
 use Rattle.writer.proofs.compare.has_entries.Tie as tie
 

@@ -2,7 +2,7 @@
 -- Assumes nothing.
 use native.Mathlib.Omega.{arith}
 use borrow.Author.Needs.{needs}
-use Rattle.writer.proofs.CompareLaws.{lacks-head, lacks-blocks, lacks-record, lacks-records, lacks-zeros, lacks-dependents, has-all}
+use Rattle.writer.proofs.compare.Laws.{lacks-head, lacks-blocks, lacks-record, lacks-records, lacks-zeros, lacks-dependents, has-all}
 use Rattle.writer.proofs.FileWrapperLaws.{length-entries}
 use Rattle.writer.proofs.compare.has_file_wrapper.Statement.{statement}
 use Rattle.writer.proofs.compare.has_file_wrapper.Tie as tie

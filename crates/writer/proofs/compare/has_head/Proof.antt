@@ -1,7 +1,7 @@
 -- `writer::compare::has_head` meets its contract.
 -- Assumes nothing.
 use borrow.Author.Needs.{needs}
-use Rattle.writer.proofs.CompareLaws.{head-is}
+use Rattle.writer.proofs.compare.Laws.{head-is}
 use Rattle.writer.proofs.compare.has_head.Statement.{statement}
 use Rattle.writer.proofs.compare.has_head.Tie as tie
 

@@ -1,7 +1,7 @@
 -- `writer::compare::has_u32` meets its contract.
 -- Assumes nothing.
 use borrow.Author.Needs.{needs}
-use Rattle.writer.proofs.CompareLaws.{word-is}
+use Rattle.writer.proofs.compare.Laws.{word-is}
 use Rattle.writer.proofs.compare.has_u32.Statement.{statement}
 use Rattle.writer.proofs.compare.has_u32.Tie as tie
 

@@ -3,7 +3,7 @@
 use Prim.Native.Nat.{_-_}
 use borrow.Author.Needs.{needs}
 use lib.ListN.{length}
-use Rattle.writer.proofs.CompareLaws.{Reading, reading-start, reading-turn, reading-stop, reading-last}
+use Rattle.writer.proofs.compare.Laws.{Reading, reading-start, reading-turn, reading-stop, reading-last}
 use Rattle.writer.proofs.compare.has_words.Statement.{statement}
 use Rattle.writer.proofs.compare.has_words.Tie as tie
 

@@ -2,7 +2,7 @@
 -- Assumes nothing.
 use Prim.Native.Nat.{_-_, _%_}
 use borrow.Author.Needs.{needs}
-use Rattle.writer.proofs.PackLaws.{Finishing, finish-start, finish-fits, finish-less, finish-turn, finish-last, pushed-length}
+use Rattle.writer.proofs.packing.Laws.{Finishing, finish-start, finish-fits, finish-less, finish-turn, finish-last, pushed-length}
 use Rattle.writer.proofs.packing.finish.Statement.{statement}
 use Rattle.writer.proofs.packing.finish.Tie as tie
 

@@ -1,7 +1,7 @@
 -- `writer::packing::push_ascii` meets its contract.
 -- Assumes nothing.
 use borrow.Author.Needs.{needs}
-use Rattle.writer.proofs.PackLaws.{ascii-one-room, ascii-one, ascii-four-room, ascii-four}
+use Rattle.writer.proofs.packing.Laws.{ascii-one-room, ascii-one, ascii-four-room, ascii-four}
 use Rattle.writer.proofs.packing.push_ascii.Statement.{statement}
 use Rattle.writer.proofs.packing.push_ascii.Tie as tie
 

@@ -2,7 +2,7 @@
 -- Assumes nothing.
 use native.Mathlib.Omega.{arith}
 use borrow.Author.Needs.{needs}
-use Rattle.writer.proofs.PackLaws.{stores-four}
+use Rattle.writer.proofs.packing.Laws.{stores-four}
 use Rattle.writer.proofs.packing.push_four.Statement.{statement}
 use Rattle.writer.proofs.packing.push_four.Tie as tie
 

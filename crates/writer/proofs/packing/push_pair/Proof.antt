@@ -1,7 +1,7 @@
 -- `writer::packing::push_pair` meets its contract.
 -- Assumes nothing.
 use borrow.Author.Needs.{needs}
-use Rattle.writer.proofs.PackLaws.{rest-room, pair-pushed, pair-keeps, pair-stores}
+use Rattle.writer.proofs.packing.Laws.{rest-room, pair-pushed, pair-keeps, pair-stores}
 use Rattle.writer.proofs.packing.push_pair.Statement.{statement}
 use Rattle.writer.proofs.packing.push_pair.Tie as tie
 

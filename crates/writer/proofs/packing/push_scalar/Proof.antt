@@ -1,7 +1,7 @@
 -- `writer::packing::push_scalar` meets its contract.
 -- Assumes nothing.
 use borrow.Author.Needs.{needs}
-use Rattle.writer.proofs.PackLaws.{high-fits, one-room, one-pushed, two-room, two-pushed}
+use Rattle.writer.proofs.packing.Laws.{high-fits, one-room, one-pushed, two-room, two-pushed}
 use Rattle.writer.proofs.packing.push_scalar.Statement.{statement}
 use Rattle.writer.proofs.packing.push_scalar.Tie as tie
 

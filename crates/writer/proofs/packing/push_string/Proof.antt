@@ -1,7 +1,7 @@
 -- `writer::packing::push_string` meets its contract.
 -- Assumes nothing.
 use borrow.Author.Needs.{needs}
-use Rattle.writer.proofs.StringLaws.{part-fits, part-pushed}
+use Rattle.writer.proofs.StringWordLaws.{part-fits, part-pushed}
 use Rattle.writer.proofs.packing.push_string.Statement.{statement}
 use Rattle.writer.proofs.packing.push_string.Tie as tie
 

@@ -2,7 +2,7 @@
 -- Assumes nothing.
 use borrow.Author.Needs.{needs}
 use Rattle.text.proofs.PartLaws.{left}
-use Rattle.writer.proofs.PackLaws.{Pushing, push-start, push-from, ascii-turn, ascii-fits, ascii-less, push-sequence, push-value, push-room, push-turn, sequence-less, push-last, pushed-length, pushed-grows}
+use Rattle.writer.proofs.packing.Laws.{Pushing, push-start, push-from, ascii-turn, ascii-fits, ascii-less, push-sequence, push-value, push-room, push-turn, sequence-less, push-last, pushed-length, pushed-grows}
 use Rattle.writer.proofs.packing.push_text.Statement.{statement}
 use Rattle.writer.proofs.packing.push_text.Tie as tie
 

@@ -1,7 +1,7 @@
 -- `writer::packing::push_unit` meets its contract.
 -- Assumes nothing.
 use borrow.Author.Needs.{needs}
-use Rattle.writer.proofs.PackLaws.{keeps, stores}
+use Rattle.writer.proofs.packing.Laws.{keeps, stores}
 use Rattle.writer.proofs.packing.push_unit.Statement.{statement}
 use Rattle.writer.proofs.packing.push_unit.Tie as tie
 

@@ -3,8 +3,8 @@
 use Prim.Native.Nat.{_-_}
 use native.Mathlib.Omega.{arith}
 use borrow.Author.Needs.{needs}
-use Rattle.writer.proofs.PackLaws.{pushed-grows}
-use Rattle.writer.proofs.StringLaws.{Stringing, first-fits, string-start, string-fits, string-slot, string-same, string-turn, string-last, finish-room}
+use Rattle.writer.proofs.packing.Laws.{pushed-grows}
+use Rattle.writer.proofs.StringWordLaws.{Stringing, first-fits, string-start, string-fits, string-slot, string-same, string-turn, string-last, finish-room}
 use Rattle.writer.proofs.packing.put_strings.Statement.{statement}
 use Rattle.writer.proofs.packing.put_strings.Tie as tie
 

@@ -1,7 +1,7 @@
 -- `writer::packing::sequence_at` meets its contract.
 -- Assumes nothing.
 use borrow.Author.Needs.{needs}
-use Rattle.writer.proofs.SequenceLaws.{there, fits, sequences, third-there, of-three}
+use Rattle.writer.proofs.packing.Sequences.{there, fits, sequences, third-there, of-three}
 use Rattle.writer.proofs.packing.sequence_at.Statement.{statement}
 use Rattle.writer.proofs.packing.sequence_at.Tie as tie
 

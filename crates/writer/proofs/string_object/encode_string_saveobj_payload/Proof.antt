@@ -1,6 +1,6 @@
 -- `writer::string_object::encode_string_saveobj_payload` meets its contract.
 -- Assumes nothing.
-use Rattle.writer.proofs.PayloadLaws.{encode-refused, encode-fits, encode-short, encode-written}
+use Rattle.writer.proofs.string_object.Payload.{encode-refused, encode-fits, encode-short, encode-written}
 use borrow.Author.Needs.{needs}
 use Rattle.writer.proofs.string_object.encode_string_saveobj_payload.Statement.{statement}
 use Rattle.writer.proofs.string_object.encode_string_saveobj_payload.Tie as tie

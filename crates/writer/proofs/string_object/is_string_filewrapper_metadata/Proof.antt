@@ -1,7 +1,7 @@
 -- `writer::string_object::is_string_filewrapper_metadata` meets its contract.
 -- Assumes nothing.
 use borrow.Author.Needs.{needs}
-use Rattle.writer.proofs.CompareLaws.{many-not, length-not, is-blob}
+use Rattle.writer.proofs.compare.Laws.{many-not, length-not, is-blob}
 use Rattle.writer.proofs.string_object.is_string_filewrapper_metadata.Statement.{statement}
 use Rattle.writer.proofs.string_object.is_string_filewrapper_metadata.Tie as tie
 

@@ -1,7 +1,7 @@
 -- `writer::string_object::measure_payload` meets its contract.
 -- Assumes nothing.
 use borrow.Author.Needs.{needs}
-use Rattle.writer.proofs.MeasureLaws.{units-fit, payload-outcomes}
+use Rattle.writer.proofs.checks.Measure.{units-fit, payload-outcomes}
 use Rattle.writer.proofs.string_object.measure_payload.Statement.{statement}
 use Rattle.writer.proofs.string_object.measure_payload.Tie as tie
 

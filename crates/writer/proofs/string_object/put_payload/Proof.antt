@@ -1,6 +1,6 @@
 -- `writer::string_object::put_payload` meets its contract.
 -- Assumes nothing.
-use Rattle.writer.proofs.PayloadLaws.{first-room, second-room, strings-fit, payload-put, payload-same}
+use Rattle.writer.proofs.string_object.Payload.{first-room, second-room, strings-fit, payload-put, payload-same}
 use borrow.Author.Needs.{needs}
 use Rattle.writer.proofs.string_object.put_payload.Statement.{statement}
 use Rattle.writer.proofs.string_object.put_payload.Tie as tie

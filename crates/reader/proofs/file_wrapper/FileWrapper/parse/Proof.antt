@@ -1,6 +1,6 @@
 -- `reader::file_wrapper::FileWrapper::parse` meets its contract.
 -- Assumes nothing.
-use Rattle.reader.proofs.OpeningLaws.{opening, ordered}
+use Rattle.reader.proofs.file_wrapper.Laws.{opening, ordered}
 use borrow.Author.Needs.{needs}
 use Rattle.reader.proofs.file_wrapper.FileWrapper.parse.Statement.{statement}
 use Rattle.reader.proofs.file_wrapper.FileWrapper.parse.Tie as tie

@@ -1,0 +1,4 @@
+pub mod Count
+pub mod Lossy
+pub mod Size
+pub mod Terminated
