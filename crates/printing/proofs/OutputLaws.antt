@@ -14,12 +14,12 @@ use Rattle.text.specs.Buffer.{over, put, Puts}
 use Rattle.text.specs.Result.{ok}
 use Rattle.text.specs.declared.error.MatError.{MatError}
 use Rattle.text.proofs.BufferLaws.{put-front, length-put}
-use Rattle.reader.specs.Lines.{escaped, lineText}
+use Rattle.printing.specs.Lines.{escaped, lineText}
 use Rattle.reader.specs.Replies.{WritesText}
-use Rattle.reader.specs.declared.lines.LinePart.{LinePart}
+use Rattle.printing.specs.declared.lines.LinePart.{LinePart}
 use Rattle.reader.specs.declared.names.NameReply.{NameReply}
 use Rattle.reader.specs.declared.names.NameReply.the-variants as name
-use Rattle.reader.proofs.lines.Laws.{escaped-most, part-most, text-puts, text-never}
+use Rattle.printing.proofs.lines.Laws.{escaped-most, part-most, text-puts, text-never}
 use Rattle.printing.specs.Output.{startOf, Ready, Adds, MakesRoom, Copies}
 use Rattle.printing.specs.declared.output.Output.{Output}
 

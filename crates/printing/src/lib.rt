@@ -1,7 +1,9 @@
 // Prints the listing of a metadata blob: how many names it declares, its objects with their classes, and their properties.
 mod input;
+pub mod lines;
 mod output;
 
+use crate::lines::LinePart;
 use input::read_input;
 use output::Output;
 use output::finish;
@@ -10,7 +12,6 @@ use output::put_part;
 use reader::classes::object_class_name;
 use reader::file_wrapper::FileWrapper;
 use reader::file_wrapper::ParseReply;
-use reader::lines::LinePart;
 use reader::names::NameReply;
 use reader::names::name;
 use reader::properties::properties;

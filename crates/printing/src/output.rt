@@ -1,13 +1,13 @@
 // Standard output by way of a buffer.
+use crate::lines::LinePart;
+use crate::lines::write_escaped;
+use crate::lines::write_part;
 use libc::STDOUT_FILENO;
-use reader::lines::LinePart;
-use reader::lines::write_escaped;
-use reader::lines::write_part;
 use reader::names::NameReply;
 ghost use mathlib.Core.Path.{_≡_};
 ghost use Prim.Native.Nat.{_+_, _≤_, _<_};
 ghost use lib.ListN.{length};
-ghost use Rattle.reader.specs.Lines.{escaped, lineText};
+ghost use Rattle.printing.specs.Lines.{escaped, lineText};
 ghost use Rattle.printing.specs.Output.{Ready, Adds, MakesRoom, Copies};
 
 // Room for what is put into the buffer at a time: a part of a line, or a chunk of a name.

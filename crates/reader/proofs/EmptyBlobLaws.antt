@@ -14,13 +14,11 @@ use Rattle.text.proofs.Utf8Laws.{scalars8-empty, lossy-same}
 use Rattle.reader.specs.Cells.{checkDirectory}
 use Rattle.reader.specs.Decode.{metadataStrings, objectStrings}
 use Rattle.reader.specs.Labels.{placeholderPart, labelOf}
-use Rattle.reader.specs.Lines.{decimal, digits, lineText}
 use Rattle.reader.specs.Names.{nameBytes}
 use Rattle.reader.specs.Objects.{objectRows, objectsFrom, objectTriples, findProperty}
 use Rattle.reader.specs.Opening.{emptyWrapper, opened}
 use Rattle.reader.specs.Queries.{intoOutput, nameText, entryOf, classOf, classText, checkObject, objectClassText}
 use Rattle.reader.specs.declared.file_wrapper.FileWrapper.{FileWrapper}
-use Rattle.reader.specs.declared.lines.LinePart.the-variants as part
 use Rattle.reader.proofs.labels.Laws.{label-zero}
 use Rattle.reader.proofs.file_wrapper.Laws.{no-2}
 
@@ -94,10 +92,3 @@ pub empty-metadata-strings :
     → (directory kinds words metadata : List ℕ) → metadataStrings [] directory kinds words metadata ≡ metadataStrings b directory kinds words metadata
 unfolding metadataStrings
 empty-metadata-strings b o directory kinds words metadata = rw (empty-opens, o)
-
--- ---- the listing
-
--- "The listing program prints the line `names 0`": it has no object to go on with
-pub empty-line : lineText (part.Names (emptyWrapper .names)) ≡ 0x6E ∷ 0x61 ∷ 0x6D ∷ 0x65 ∷ 0x73 ∷ 0x20 ∷ 0x30 ∷ 0x0A ∷ []
-unfolding decimal digits
-empty-line = refl

@@ -4,7 +4,6 @@ pub mod Cells
 pub mod Decode
 pub mod DecodeStages
 pub mod Labels
-pub mod Lines
 pub mod ListingStages
 pub mod Names
 pub mod ObjectStages

@@ -6,7 +6,6 @@ pub mod decode;
 pub mod file_wrapper;
 pub mod find;
 pub mod labels;
-pub mod lines;
 pub mod listing;
 pub mod names;
 pub mod objects;

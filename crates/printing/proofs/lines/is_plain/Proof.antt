@@ -1,9 +1,9 @@
--- `reader::lines::is_plain` meets its contract.
+-- `printing::lines::is_plain` meets its contract.
 -- Assumes nothing.
-use Rattle.reader.proofs.lines.Laws.{plain-under, plain-over, plain-quote, plain-rest}
+use Rattle.printing.proofs.lines.Laws.{plain-under, plain-over, plain-quote, plain-rest}
 use borrow.Author.Needs.{needs}
-use Rattle.reader.proofs.lines.is_plain.Statement.{statement}
-use Rattle.reader.proofs.lines.is_plain.Tie as tie
+use Rattle.printing.proofs.lines.is_plain.Statement.{statement}
+use Rattle.printing.proofs.lines.is_plain.Tie as tie
 
 pub is-plain-spec : {M : Type 1} → statement M
 is-plain-spec =

@@ -1,9 +1,9 @@
--- `reader::lines::put_decimal` meets its contract.
+-- `printing::lines::put_decimal` meets its contract.
 -- Assumes nothing.
-use Rattle.reader.proofs.lines.Laws.{Printing, print-start, print-some, print-at, print-turn, print-room, print-last}
+use Rattle.printing.proofs.lines.Laws.{Printing, print-start, print-some, print-at, print-turn, print-room, print-last}
 use borrow.Author.Needs.{needs}
-use Rattle.reader.proofs.lines.put_decimal.Statement.{statement}
-use Rattle.reader.proofs.lines.put_decimal.Tie as tie
+use Rattle.printing.proofs.lines.put_decimal.Statement.{statement}
+use Rattle.printing.proofs.lines.put_decimal.Tie as tie
 
 abbrev Inv-loop : tie.InvT-loop
 Inv-loop value out₀ at end v₀ i₀ out v i = Printing value at out₀ out v i

@@ -1,10 +1,10 @@
--- `reader::lines::write_word` meets its contract.
+-- `printing::lines::write_word` meets its contract.
 -- Assumes nothing.
 use native.Mathlib.Omega.{arith}
-use Rattle.reader.proofs.lines.Laws.{text-short, text-copied}
+use Rattle.printing.proofs.lines.Laws.{text-short, text-copied}
 use borrow.Author.Needs.{needs}
-use Rattle.reader.proofs.lines.write_word.Statement.{statement}
-use Rattle.reader.proofs.lines.write_word.Tie as tie
+use Rattle.printing.proofs.lines.write_word.Statement.{statement}
+use Rattle.printing.proofs.lines.write_word.Tie as tie
 
 pub write-word-spec : {M : Type 1} → statement M
 write-word-spec =

@@ -1,5 +1,5 @@
 // The lines of a listing, part by part.
-use crate::names::NameReply;
+use reader::names::NameReply;
 use text::copy::copy_bytes;
 use text::error::MatError;
 ghost use mathlib.Core.Path.{_≡_};
@@ -7,8 +7,8 @@ ghost use Prim.Native.Nat.{_+_, _^_, _≤_, _<_};
 ghost use lib.ListN.{length};
 ghost use Rattle.text.specs.Buffer.{Puts};
 ghost use Rattle.text.specs.Result.{ok, needPlace};
-ghost use Rattle.reader.specs.Lines.{isPlain, hexDigit, escape, escaped, decimal, CountsDigits, numbered, lineText};
+ghost use Rattle.printing.specs.Lines.{isPlain, hexDigit, escape, escaped, decimal, CountsDigits, numbered, lineText};
 ghost use Rattle.reader.specs.Replies.{WritesText};
 
 // A part of a line other than a name.
 pub enum LinePart {

@@ -1,11 +1,11 @@
--- `reader::lines::escaped_need` meets its contract.
+-- `printing::lines::escaped_need` meets its contract.
 -- Assumes nothing.
 use Prim.Native.Nat.{_-_}
 use lib.ListN.{length}
-use Rattle.reader.proofs.lines.Laws.{Measuring, measure-start, measure-turn, measure-over, measure-last}
+use Rattle.printing.proofs.lines.Laws.{Measuring, measure-start, measure-turn, measure-over, measure-last}
 use borrow.Author.Needs.{needs}
-use Rattle.reader.proofs.lines.escaped_need.Statement.{statement}
-use Rattle.reader.proofs.lines.escaped_need.Tie as tie
+use Rattle.printing.proofs.lines.escaped_need.Statement.{statement}
+use Rattle.printing.proofs.lines.escaped_need.Tie as tie
 
 abbrev Inv-loop : tie.InvT-loop
 Inv-loop name n₀ i₀ n i = Measuring name n i

@@ -7,8 +7,8 @@ use mathlib.Core.List.{List, [], _∷_, _++_, flatMap}
 use lib.Dec.{ltb, eqb}
 use lib.ListN.{length}
 use Rattle.text.specs.Unicode.{within}
-use Rattle.reader.specs.declared.lines.LinePart.{LinePart}
-use Rattle.reader.specs.declared.lines.LinePart.the-variants as part
+use Rattle.printing.specs.declared.lines.LinePart.{LinePart}
+use Rattle.printing.specs.declared.lines.LinePart.the-variants as part
 
 -- whether a byte is none of the "bytes outside 33 to 126, the quote and the backslash"
 abbrev pub isPlain : ℕ → Bool

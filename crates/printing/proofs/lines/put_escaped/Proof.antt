@@ -1,11 +1,11 @@
--- `reader::lines::put_escaped` meets its contract.
+-- `printing::lines::put_escaped` meets its contract.
 -- Assumes nothing.
 use Prim.Native.Nat.{_-_}
 use lib.ListN.{length}
-use Rattle.reader.proofs.lines.Laws.{Writing, write-start, write-room, write-turn, write-last}
+use Rattle.printing.proofs.lines.Laws.{Writing, write-start, write-room, write-turn, write-last}
 use borrow.Author.Needs.{needs}
-use Rattle.reader.proofs.lines.put_escaped.Statement.{statement}
-use Rattle.reader.proofs.lines.put_escaped.Tie as tie
+use Rattle.printing.proofs.lines.put_escaped.Statement.{statement}
+use Rattle.printing.proofs.lines.put_escaped.Tie as tie
 
 abbrev Inv-loop : tie.InvT-loop
 Inv-loop name out₀ o₀ i₀ out o i = Writing name out₀ out o i

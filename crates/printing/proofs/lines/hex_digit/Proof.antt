@@ -1,9 +1,9 @@
--- `reader::lines::hex_digit` meets its contract.
+-- `printing::lines::hex_digit` meets its contract.
 -- Assumes nothing.
-use Rattle.reader.proofs.lines.Laws.{hex-figure, hex-letter}
+use Rattle.printing.proofs.lines.Laws.{hex-figure, hex-letter}
 use borrow.Author.Needs.{needs}
-use Rattle.reader.proofs.lines.hex_digit.Statement.{statement}
-use Rattle.reader.proofs.lines.hex_digit.Tie as tie
+use Rattle.printing.proofs.lines.hex_digit.Statement.{statement}
+use Rattle.printing.proofs.lines.hex_digit.Tie as tie
 
 pub hex-digit-spec : {M : Type 1} → statement M
 hex-digit-spec =

@@ -1,9 +1,9 @@
--- `reader::lines::write_numbered` meets its contract.
+-- `printing::lines::write_numbered` meets its contract.
 -- Assumes nothing.
-use Rattle.reader.proofs.lines.Laws.{numbered-short, numbered-written}
+use Rattle.printing.proofs.lines.Laws.{numbered-short, numbered-written}
 use borrow.Author.Needs.{needs}
-use Rattle.reader.proofs.lines.write_numbered.Statement.{statement}
-use Rattle.reader.proofs.lines.write_numbered.Tie as tie
+use Rattle.printing.proofs.lines.write_numbered.Statement.{statement}
+use Rattle.printing.proofs.lines.write_numbered.Tie as tie
 
 pub write-numbered-spec : {M : Type 1} → statement M
 write-numbered-spec =

@@ -1,10 +1,10 @@
--- `reader::lines::write_escaped` meets its contract.
+-- `printing::lines::write_escaped` meets its contract.
 -- Assumes nothing.
 use native.Mathlib.Omega.{arith}
-use Rattle.reader.proofs.lines.Laws.{text-short, text-written}
+use Rattle.printing.proofs.lines.Laws.{text-short, text-written}
 use borrow.Author.Needs.{needs}
-use Rattle.reader.proofs.lines.write_escaped.Statement.{statement}
-use Rattle.reader.proofs.lines.write_escaped.Tie as tie
+use Rattle.printing.proofs.lines.write_escaped.Statement.{statement}
+use Rattle.printing.proofs.lines.write_escaped.Tie as tie
 
 pub write-escaped-spec : {M : Type 1} → statement M
 write-escaped-spec =

@@ -1,9 +1,9 @@
--- `reader::lines::put_escape` meets its contract.
+-- `printing::lines::put_escape` meets its contract.
 -- Assumes nothing.
-use Rattle.reader.proofs.lines.Laws.{plain-room, plain-puts, hex-puts}
+use Rattle.printing.proofs.lines.Laws.{plain-room, plain-puts, hex-puts}
 use borrow.Author.Needs.{needs}
-use Rattle.reader.proofs.lines.put_escape.Statement.{statement}
-use Rattle.reader.proofs.lines.put_escape.Tie as tie
+use Rattle.printing.proofs.lines.put_escape.Statement.{statement}
+use Rattle.printing.proofs.lines.put_escape.Tie as tie
 
 pub put-escape-spec : {M : Type 1} → statement M
 put-escape-spec =

@@ -1,9 +1,9 @@
--- `reader::lines::write_part` meets its contract.
+-- `printing::lines::write_part` meets its contract.
 -- Assumes nothing.
-use Rattle.reader.proofs.lines.Laws.{part-is}
+use Rattle.printing.proofs.lines.Laws.{part-is}
 use borrow.Author.Needs.{needs}
-use Rattle.reader.proofs.lines.write_part.Statement.{statement}
-use Rattle.reader.proofs.lines.write_part.Tie as tie
+use Rattle.printing.proofs.lines.write_part.Statement.{statement}
+use Rattle.printing.proofs.lines.write_part.Tie as tie
 
 pub write-part-spec : {M : Type 1} → statement M
 write-part-spec =

@@ -1,9 +1,9 @@
--- `reader::lines::decimal_length` meets its contract.
+-- `printing::lines::decimal_length` meets its contract.
 -- Assumes nothing.
-use Rattle.reader.proofs.lines.Laws.{Counting, count-start, count-turn, count-last}
+use Rattle.printing.proofs.lines.Laws.{Counting, count-start, count-turn, count-last}
 use borrow.Author.Needs.{needs}
-use Rattle.reader.proofs.lines.decimal_length.Statement.{statement}
-use Rattle.reader.proofs.lines.decimal_length.Tie as tie
+use Rattle.printing.proofs.lines.decimal_length.Statement.{statement}
+use Rattle.printing.proofs.lines.decimal_length.Tie as tie
 
 abbrev Inv-loop : tie.InvT-loop
 Inv-loop value n₀ v₀ n v = Counting value n v

@@ -19,12 +19,13 @@ use Rattle.text.proofs.BufferLaws.{put-none, put-front, places-fits, places-fro
 use Rattle.text.proofs.ByteLaws.{stores}
 use Rattle.text.proofs.TestLaws.{cond-both, within-yes, within-under, within-over}
 use Rattle.writer.proofs.FileWrapperLaws.{puts-then, puts-length}
-use Rattle.reader.specs.Lines.{isPlain, hexDigit, escape, escaped, digits, decimal, CountsDigits, numbered, lineText}
+use Rattle.printing.specs.Lines.{isPlain, hexDigit, escape, escaped, digits, decimal, CountsDigits, numbered, lineText}
+use Rattle.reader.specs.Opening.{emptyWrapper}
 use Rattle.reader.specs.Replies.{nameReplyOf, WritesText}
-use Rattle.reader.specs.declared.lines.LinePart.{LinePart}
-use Rattle.reader.specs.declared.lines.LinePart.the-variants as part
+use Rattle.printing.specs.declared.lines.LinePart.{LinePart}
+use Rattle.printing.specs.declared.lines.LinePart.the-variants as part
 use Rattle.reader.specs.declared.names.NameReply.{NameReply}
 use Rattle.reader.specs.declared.names.NameReply.the-variants as name
 
 -- ---- a byte of a name
 
@@ -357,3 +358,8 @@ part-most (part.Heap n) = omega (arith, numbered-most (0x20 ∷ 0x68 ∷ 0x65 �
 part-most (part.Inline n) = omega (arith, numbered-most (0x20 ∷ 0x69 ∷ 0x6E ∷ 0x6C ∷ 0x69 ∷ 0x6E ∷ 0x65 ∷ 0x20 ∷ []) n (0x0A ∷ []))
 part-most part.Name = omega arith
 part-most part.End = omega arith
+
+-- "The listing program prints the line `names 0`": it has no object to go on with
+pub empty-line : lineText (part.Names (emptyWrapper .names)) ≡ 0x6E ∷ 0x61 ∷ 0x6D ∷ 0x65 ∷ 0x73 ∷ 0x20 ∷ 0x30 ∷ 0x0A ∷ []
+unfolding decimal digits
+empty-line = refl
