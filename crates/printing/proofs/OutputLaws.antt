@@ -13,7 +13,7 @@ use lib.Seq.{take-all, drop-drop, drop-length}
 use Rattle.text.specs.Buffer.{over, put, Puts}
 use Rattle.text.specs.Result.{ok}
 use Rattle.text.specs.declared.error.MatError.{MatError}
-use Rattle.text.proofs.BufferLaws.{put-front, length-put}
+use Rattle.text.proofs.BufferLaws.{part-put, length-put}
 use Rattle.printing.specs.Lines.{escaped, lineText}
 use Rattle.reader.specs.Replies.{WritesText}
 use Rattle.printing.specs.declared.lines.LinePart.{LinePart}
@@ -61,17 +61,6 @@ module _ (s out : List ℕ) (l : length s ≤ 1365) (h : 4096 ≤ length out) wh
   chunk-never g w = record { puts = text-never (escaped s) out shown-fits g w; few = omega arith }
 
 -- ---- a text in the part of the buffer that is free
-
-part-put : (d w : List ℕ) (at : ℕ) {n : ℕ} {part' : List ℕ} → at + length w ≤ length d → Puts (midOf at (length d - at) d) 0 w n part'
-    → putMid at (length d - at) d part' ≡ put d at w
-unfolding put
-part-put d w at {part' = part'} h p =
-    let k : ℕ = length d - at in
-    let all : midOf at k d ≡ drop at d = take-all k (drop at d) (omega (arith, length-drop at d)) in
-    let end : at + k ≡ length d = omega arith in
-    let none : drop k (drop at d) ≡ [] = drop-drop k at d ∙ rw end (drop-length d) in
-    let e : part' ≡ over w (midOf at k d) = p .buffer ∙ put-front (midOf at k d) w in
-    rw (none, append-nil part', e, all, drop-drop (length w) at d) (sym (append-assoc (take at d) w (drop (at + length w) d)))
 
 pub added : (w out : List ℕ) (o room : Output) {n : ℕ} {f : Bool} {part' : List ℕ} → Ready o out → MakesRoom out o room
     → Copies w (midOf (room .used) (length out - room .used) out) n part'

@@ -13,13 +13,13 @@ use lib.Dec.{eqb}
 use lib.ListN.{length, getD, take}
 use lib.Seq.{slice, getD-append-add, getD-take, getD-drop}
 use Rattle.text.specs.Result.{ok, checkEach}
-use Rattle.text.specs.Unicode.{Below, utf8}
-use Rattle.text.specs.Utf8.{table, find, sequenceLength, matched, valueAt, wholeAt, nextAt, stepAt, partsCount, partsFrom, repaired}
+use Rattle.text.specs.Unicode.{Below}
+use Rattle.text.proofs.AsciiLaws.{ascii-lossy}
 use Rattle.text.proofs.ResultLaws.{checkEach-yes, each-holds}
 use Rattle.text.proofs.SameLaws.{same-refl}
 use Rattle.writer.specs.FileWrapper.{u32Bytes, u32s, regions, offsetsFrom, fileWrapper}
 use Rattle.writer.proofs.FileWrapperLaws.{offsets-are, length-file-wrapper}
-use Rattle.writer.proofs.LayoutLaws.{offset-next, file-words, file-heap, classes-at, block-0, block-at, record-at, normal-0}
+use Rattle.writer.proofs.LayoutLaws.{u32s-cons, region-count, offset-next, file-words, file-heap, classes-at, block-0, block-at, record-at, normal-0}
 use Rattle.reader.specs.Blocks.{nextBlock, blockAt, blocksFrom, blocks}
 use Rattle.reader.specs.Decode.{anyName, stringName}
 use Rattle.reader.specs.Names.{pieces, nameBytes}
@@ -54,12 +54,11 @@ first-word v l h =
     omega (arith, two, three, four)
 
 word-of : (vs : List ℕ) (k : ℕ) → Below (2 ^ 32) vs → k < length vs → u32At (u32s vs) (4 * k) ≡ getD vs k 0
-unfolding u32s flatMap
 word-of [] k f h = absurd (omega arith)
-word-of (v ∷ vs) zero f h = first-word v (u32s vs) (f .0)
+word-of (v ∷ vs) zero f h = rw (u32s-cons v vs) (first-word v (u32s vs) (f .0))
 word-of (v ∷ vs) (suc k) f h =
     let j : 4 * suc k ≡ 4 + 4 * k = omega arith in
-    rw j (word-after (u32Bytes v) (u32s vs) (4 * k) ∙ word-of vs k (f .1) (omega arith))
+    rw (u32s-cons v vs, j) (word-after (u32Bytes v) (u32s vs) (4 * k) ∙ word-of vs k (f .1) (omega arith))
 
 -- word k of the words vs that stand from a on
 word-at : (b : List ℕ) (a e : ℕ) (vs : List ℕ) → slice a e b ≡ u32s vs → a + 4 * length vs ≤ e → Below (2 ^ 32) vs → (k : ℕ) → k < length vs
@@ -162,8 +161,7 @@ module _ (n : ℕ) (few : n ≤ 349522) where
   -- ---- opening
 
   ascends : (k : ℕ) → k < 7 → offset b k ≤ offset b (suc k)
-  unfolding regions
-  ascends k h = omega (arith, offset-next 56 (regions n) k (omega arith), offset-is k (omega arith), offset-is (suc k) (omega arith))
+  ascends k h = omega (arith, offset-next 56 (regions n) k (omega (arith, region-count n)), offset-is k (omega arith), offset-is (suc k) (omega arith))
 
   inside : (m k : ℕ) → k + m ≡ 7 → offset b k ≤ length b
   inside zero k e =
@@ -194,8 +192,8 @@ module _ (n : ℕ) (few : n ≤ 349522) where
   -- ---- names
 
   pub names-are : (shown b w 1 ≡ anyName) × (shown b w 2 ≡ stringName)
-  unfolding nameBytes pieces table find sequenceLength matched valueAt wholeAt nextAt stepAt partsCount partsFrom repaired utf8 flatMap
-  names-are = (rw (file-heap n), rw (file-heap n))
+  unfolding nameBytes pieces
+  names-are = (rw (file-heap n) (ascii-lossy anyName (omega arith)), rw (file-heap n) (ascii-lossy stringName (omega arith)))
 
   pub built-name : nameText (fileWrapper n) 1 ≡ ok anyName
   unfolding nameText

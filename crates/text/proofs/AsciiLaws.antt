@@ -9,10 +9,10 @@ use lib.ListN.{length, getD, take}
 use lib.Seq.{take-suc, take-all}
 use Rattle.text.specs.Replies.{CountsUnits}
 use Rattle.text.specs.Unicode.{Below, utf8s, utf16s}
-use Rattle.text.specs.Utf8.{Part, sequence, partsFrom, firstIllFormed, scalars8, unitsOf}
+use Rattle.text.specs.Utf8.{Part, sequence, partsFrom, firstIllFormed, scalars8, unitsOf, lossy}
 use Rattle.text.specs.declared.utf8.UnitCount.the-variants as count
 use Rattle.text.proofs.ScalarLaws.{Scalars, gap-below, utf8-1, utf16-1, utf8s-nil, utf8s-cons, utf16s-nil, utf16s-cons, below-append}
-use Rattle.text.proofs.Utf8Laws.{parts-utf8s, scalars8-utf8s}
+use Rattle.text.proofs.Utf8Laws.{parts-utf8s, scalars8-utf8s, lossy-same}
 
 pub below-more : (a b : ℕ) (xs : List ℕ) → a ≤ b → Below a xs → Below b xs
 below-more a b [] h p = tt
@@ -57,6 +57,12 @@ ascii-scalars : (s : List ℕ) → Below 128 s → Scalars s
 ascii-scalars [] p = tt
 ascii-scalars (b ∷ s) p = (record { top = omega (arith, p .0); gap = gap-below b (omega (arith, p .0)) }, ascii-scalars s (p .1))
 
+ascii-well-formed : (s : List ℕ) → Below 128 s → scalars8 s ≡ some s
+ascii-well-formed s p = rw (ascii-utf8s s p) at (scalars8-utf8s s (ascii-scalars s p))
+
+pub ascii-lossy : (s : List ℕ) → Below 128 s → lossy s ≡ s
+ascii-lossy s p = lossy-same s (ascii-well-formed s p)
+
 none-ill-formed : (s : List ℕ) → firstIllFormed (map sequence s) ≡ none
 unfolding firstIllFormed
 none-ill-formed [] = refl
@@ -66,6 +72,6 @@ pub ascii-counts : (s : List ℕ) {high : ℕ} → Below (high + 1) s → high <
 ascii-counts s {high} p h =
     let q : Below 128 s = below-more (high + 1) 128 s (omega arith) p in
     let e = ascii-utf8s s q in
-    let v : scalars8 s ≡ some s = rw e at (scalars8-utf8s s (ascii-scalars s q)) in
+    let v : scalars8 s ≡ some s = ascii-well-formed s q in
     let f : partsFrom s 0 ≡ map sequence s = rw e at (parts-utf8s s (ascii-scalars s q)) in
     record { units = rw v (ap (λ (us : List ℕ). some (length us)) (sym (ascii-utf16s s q))); place = sym (ap firstIllFormed f ∙ none-ill-formed s) }

@@ -6,9 +6,10 @@ use Prim.Native.Nat.{ℕ, suc, _+_, _-_, _≤_, _<_}
 use native.Mathlib.Nat.{add-zero, zero-add}
 use native.Mathlib.Omega.{arith}
 use borrow.Author.Tests.{le-leb, lt-leb, leb-true, leb-false}
+use borrow.Rule.Slice.PartMut.{midOf, putMid}
 use lib.Dec.{leb}
 use lib.ListN.{length, getD, take, drop, set, length-append, length-take, length-drop, take-append-drop}
-use lib.Seq.{length-take-le, take-at, drop-at, set-at, drop-cons, drop-drop, append-snoc, take-suc, drop-append-le, slice}
+use lib.Seq.{length-take-le, take-all, take-at, take-set-le, drop-at, drop-length, set-at, set-split, drop-cons, drop-drop, append-snoc, take-suc, drop-append-le, slice}
 use Rattle.text.specs.Buffer.{over, put, Puts, placed, placedEnd, Places}
 use Rattle.text.proofs.TestLaws.{either}
 
@@ -82,6 +83,31 @@ put-more d at w x o e h =
     ∙ ap (λ (p : List ℕ). p ++ drop (at + length w + length x) d) (append-assoc (take at d) w x)
     ∙ ap (λ (i : ℕ). take at d ++ (w ++ x) ++ drop i d) n
     ∙ sym (put-is d at (w ++ x)))
+
+-- a store right after where a text goes is one element more of the text
+pub put-before : (d : List ℕ) (at : ℕ) (w : List ℕ) (x i : ℕ) → i ≡ at + length w → i < length d → put (set d i x) at w ≡ put d at (w ++ x ∷ [])
+unfolding put
+put-before d at w x i e h =
+    let rest : List ℕ = drop (suc i) d in
+    let n : suc i ≡ at + length (w ++ x ∷ []) = omega (arith, length-append w (x ∷ [])) in
+    rw (sym e)
+    (ap₂ (λ (p q : List ℕ). p ++ w ++ q) (take-set-le at d i x (omega arith))
+    (ap (drop i) (set-split d i x h) ∙ drop-at (take i d) (x ∷ rest) i (length-take-le i d (omega arith)))
+    ∙ sym (append-snoc (take at d ++ w) x rest)
+    ∙ ap (λ (r : List ℕ). r ++ rest) (append-assoc (take at d) w (x ∷ []))
+    ∙ ap (λ (k : ℕ). take at d ++ (w ++ x ∷ []) ++ drop k d) n)
+
+-- a text at the start of the part of a buffer from an index on
+pub part-put : (d w : List ℕ) (at : ℕ) {n : ℕ} {part' : List ℕ} → at + length w ≤ length d → Puts (midOf at (length d - at) d) 0 w n part'
+    → putMid at (length d - at) d part' ≡ put d at w
+unfolding put
+part-put d w at {part' = part'} h p =
+    let k : ℕ = length d - at in
+    let all : midOf at k d ≡ drop at d = take-all k (drop at d) (omega (arith, length-drop at d)) in
+    let end : at + k ≡ length d = omega arith in
+    let none : drop k (drop at d) ≡ [] = drop-drop k at d ∙ rw end (drop-length d) in
+    let e : part' ≡ over w (midOf at k d) = p .buffer ∙ put-front (midOf at k d) w in
+    rw (none, append-nil part', e, all, drop-drop (length w) at d) (sym (append-assoc (take at d) w (drop (at + length w) d)))
 
 -- one element more of a part
 pub slice-more : (s : List ℕ) (f i : ℕ) → f ≤ i → i < length s → slice f (i + 1) s ≡ slice f i s ++ getD s i 0 ∷ []

@@ -3,6 +3,7 @@
 use mathlib.Core.Path.{_≡_, refl, sym, ap, _∙_}
 use mathlib.Core.Bool.{Bool, true, false, cond}
 use mathlib.Core.List.{List, [], _∷_}
+use mathlib.Core.Option.{some, none, Option·map}
 use Prim.Native.Nat.{ℕ, zero, suc, _+_, _-_, _≤_, _<_, max}
 use native.Mathlib.Omega.{arith}
 use borrow.Author.Tests.{le-ltb, ltb-true, ltb-false, leb-true}
@@ -10,7 +11,7 @@ use lib.Dec.{ltb, leb, eqb}
 use lib.ListN.{length, getD}
 use Rattle.text.specs.declared.utf8.Step.{Step}
 use Rattle.text.specs.declared.utf8.Step.the-variants.{Scalar, IllFormed, End}
-use Rattle.text.specs.Utf8.{sequenceLength, matched, wholeAt, nextAt, stepAt, valueAt, Part, sequence, illFormed, before, partsCount, partsFrom}
+use Rattle.text.specs.Utf8.{sequenceLength, matched, wholeAt, nextAt, stepAt, valueAt, Part, sequence, illFormed, before, partsCount, partsFrom, scalarsOf}
 use Rattle.text.proofs.StepLaws.{has-at}
 
 -- ---- a step goes on, and stays within s
@@ -134,6 +135,20 @@ module _ (s : List ℕ) (i : ℕ) where
       let k : length s - i ≡ suc (length s - suc i) = omega (arith, a) in
       rw (k, e) (ap (λ (ps : List Part). illFormed i ∷ ps) (rest-same a))
 
+  -- the scalar values from i on
+
+  pub scalars-end : length s ≤ i → scalarsOf (partsFrom s i) ≡ some []
+  unfolding scalarsOf
+  scalars-end h = rw (parts-end h)
+
+  pub scalars-scalar : {v next : ℕ} → stepAt s i ≡ Scalar v next → scalarsOf (partsFrom s i) ≡ Option·map (λ vs. v ∷ vs) (scalarsOf (partsFrom s next))
+  unfolding scalarsOf
+  scalars-scalar e = rw (parts-scalar e)
+
+  pub scalars-ill-formed : {next : ℕ} → stepAt s i ≡ IllFormed next → scalarsOf (partsFrom s i) ≡ none
+  unfolding scalarsOf
+  scalars-ill-formed e = rw (parts-ill-formed e)
+
 -- a rule of the parts from each position on, by what the step there finds
 module _ (s : List ℕ) (P : ℕ → List Part → Type 0) (end : (i : ℕ) → length s ≤ i → P i [])
     (scalar : (i v n : ℕ) → stepAt s i ≡ Scalar v n → P n (partsFrom s n) → P i (sequence v ∷ partsFrom s n))
@@ -173,6 +188,10 @@ module _ (s : List ℕ) (i : ℕ) {x : Step} (e : x ≡ stepAt s i) where
   ill-formed-less {next} g =
       let a = step-breaks s i (sym e ∙ g) .advance in
       omega (arith, a)
+
+pub left-less : (s : List ℕ) (i j : ℕ) → i < j → j ≤ length s → left s j < left s i
+unfolding left
+left-less s i j a b = omega arith
 
 pub byte-less : (s : List ℕ) (i : ℕ) → i < length s → left s (i + 1) < left s i
 unfolding left

@@ -1,7 +1,7 @@
 -- When two lists of bytes are the same, and the loop that compares a repaired text with another.
 -- Assumes nothing.
 use mathlib.Core.Path.{_≡_, refl, _∙_, sym, ap}
-use mathlib.Core.Bool.{Bool, true, false, not}
+use mathlib.Core.Bool.{Bool, true, false, not, _&&_, and-assoc}
 use mathlib.Core.List.{List, [], _∷_, _++_, flatMap}
 use Prim.Native.Nat.{ℕ, _+_, _≤_}
 use native.Mathlib.Omega.{arith}
@@ -27,6 +27,13 @@ pub same-refl : (a : List ℕ) → same a a ≡ true
 unfolding same
 same-refl [] = refl
 same-refl (x ∷ xs) = simp (eq-eqb x x refl) (same-refl xs)
+
+-- a list begins with w ++ x where it begins with w and goes on with x
+pub same-append : (l w x : List ℕ) → same (take (length (w ++ x)) l) (w ++ x) ≡ (same (take (length w) l) w && same (take (length x) (drop (length w) l)) x)
+unfolding same
+same-append l [] x = refl
+same-append [] (a ∷ w) x = refl
+same-append (c ∷ l) (a ∷ w) x = rw (same-append l w x) (sym (and-assoc (eqb c a) _ _))
 
 pub same-is : (a b : List ℕ) → same a b ≡ true → a ≡ b
 unfolding same

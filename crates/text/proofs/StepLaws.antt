@@ -30,6 +30,20 @@ pub length-le : (b : ℕ) → sequenceLength b ≤ 4
 unfolding sequenceLength table
 length-le b = find-le table refl b
 
+-- the value of a sequence by its size
+module _ (s : List ℕ) (i : ℕ) where
+  pub value-2 : valueAt s i 2 ≡ getD s i 0 % 32 * 64 + getD s (i + 1) 0 % 64
+  unfolding valueAt
+  value-2 = refl
+
+  pub value-3 : valueAt s i 3 ≡ getD s i 0 % 16 * 4096 + getD s (i + 1) 0 % 64 * 64 + getD s (i + 2) 0 % 64
+  unfolding valueAt
+  value-3 = refl
+
+  pub value-4 : valueAt s i 4 ≡ getD s i 0 % 8 * 262144 + getD s (i + 1) 0 % 64 * 4096 + getD s (i + 2) 0 % 64 * 64 + getD s (i + 3) 0 % 64
+  unfolding valueAt
+  value-4 = refl
+
 -- a byte that was found is there
 pub has-at : (s : List ℕ) (i lo hi : ℕ) → hasIn s i lo hi ≡ true → i < length s
 unfolding hasIn

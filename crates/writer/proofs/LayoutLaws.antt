@@ -8,7 +8,7 @@ use native.Mathlib.Omega.{arith}
 use lib.ListN.{length, getD, take, drop, length-append, length-map}
 use lib.Seq.{slice, take-at, drop-at, take-nil, drop-nil, take-take}
 use Rattle.writer.specs.Array.{Array, noArray, payload, payloads, payloadSpans}
-use Rattle.writer.specs.FileWrapper.{u32s, nameHeap, classEntries, entry, zeroEntry, entriesFrom, region, regions, offsetsFrom, fileWrapper}
+use Rattle.writer.specs.FileWrapper.{u32Bytes, u32s, nameHeap, classEntries, entry, zeroEntry, entriesFrom, region, regions, offsetsFrom, fileWrapper}
 use Rattle.writer.specs.Spans.{offsetAt, endAt, stringAt, joined, spansFrom}
 use Rattle.writer.specs.declared.file_wrapper.Region.{Region}
 use Rattle.writer.specs.declared.file_wrapper.Region.the-variants.{SavedBlocks, Objects}
@@ -20,7 +20,15 @@ part-at p q r a e h k =
     ∙ ap (drop a) (take-at (p ++ q) r e (length-append p q ∙ ap (λ (n : ℕ). n + length q) h ∙ k))
     ∙ drop-at p q a h
 
+pub u32s-cons : (v : ℕ) (vs : List ℕ) → u32s (v ∷ vs) ≡ u32Bytes v ++ u32s vs
+unfolding u32s flatMap
+u32s-cons v vs = refl
+
 -- ---- regions
+
+pub region-count : (n : ℕ) → length (regions n) ≡ 7
+unfolding regions
+region-count n = refl
 
 first-offset : (o : ℕ) (rs : List (List ℕ)) → getD (offsetsFrom o rs) 0 0 ≡ o
 unfolding offsetsFrom

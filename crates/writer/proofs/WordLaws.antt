@@ -27,6 +27,40 @@ packed-below (a ∷ b ∷ []) h = (omega arith, tt)
 packed-below (a ∷ b ∷ c ∷ []) h = (omega arith, tt)
 packed-below (a ∷ b ∷ c ∷ d ∷ us) h = (omega arith, packed-below us (h .1 .1 .1 .1))
 
+-- ---- the words, by the units
+
+pub packed-0 : packed [] ≡ []
+unfolding packed
+packed-0 = refl
+
+pub packed-1 : (a : ℕ) → packed (a ∷ []) ≡ a ∷ []
+unfolding packed value
+packed-1 a = ap (λ (w : ℕ). w ∷ []) (omega arith)
+
+pub packed-2 : (a b : ℕ) → packed (a ∷ b ∷ []) ≡ (a + 65536 * b) ∷ []
+unfolding packed value
+packed-2 a b = ap (λ (w : ℕ). w ∷ []) (omega arith)
+
+pub packed-3 : (a b c : ℕ) → packed (a ∷ b ∷ c ∷ []) ≡ (a + 65536 * b + 4294967296 * c) ∷ []
+unfolding packed value
+packed-3 a b c = ap (λ (w : ℕ). w ∷ []) (omega arith)
+
+pub packed-4 : (a b c d : ℕ) (us : List ℕ) → packed (a ∷ b ∷ c ∷ d ∷ us) ≡ (a + 65536 * b + 4294967296 * c + 281474976710656 * d) ∷ packed us
+unfolding packed value
+packed-4 a b c d us = ap (λ (w : ℕ). w ∷ packed us) (omega arith)
+
+-- after the last unit packing leaves zeros
+pub padded : (us : List ℕ) → Below 65536 us → getD (packed us) (length us / 4) 0 / 2 ^ (16 * (length us % 4)) ≡ 0
+unfolding packed value
+padded [] h = refl
+padded (a ∷ []) h = omega arith
+padded (a ∷ b ∷ []) h = omega arith
+padded (a ∷ b ∷ c ∷ []) h = omega arith
+padded (a ∷ b ∷ c ∷ d ∷ us) h =
+    let i : suc (suc (suc (suc (length us)))) / 4 ≡ suc (length us / 4) = omega arith in
+    let j : suc (suc (suc (suc (length us)))) % 4 ≡ length us % 4 = omega arith in
+    rw (i, j) (padded us (h .1 .1 .1 .1))
+
 -- ---- unit by unit
 
 -- the words that the units fill; up to three units are left over

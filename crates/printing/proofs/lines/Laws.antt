@@ -15,7 +15,7 @@ use Rattle.text.specs.Buffer.{put, Puts, Places}
 use Rattle.text.specs.Result.{ok, needPlace}
 use Rattle.text.specs.declared.error.MatError.{MatError}
 use Rattle.text.specs.declared.error.MatError.the-variants.{OutputTooShort}
-use Rattle.text.proofs.BufferLaws.{put-none, put-front, places-fits, places-front}
+use Rattle.text.proofs.BufferLaws.{put-none, put-front, places-fits, places-front, put-before}
 use Rattle.text.proofs.ByteLaws.{stores}
 use Rattle.text.proofs.TestLaws.{cond-both, within-yes, within-under, within-over}
 use Rattle.writer.proofs.FileWrapperLaws.{puts-then, puts-length}
@@ -220,19 +220,6 @@ module _ (value : ℕ) where
 
     pub count-last : v < 10 → CountsDigits value n
     count-last h = let e = ap length (decimal-one v h) in record { is = omega arith; few = omega arith }
-
--- a store right after where a text goes is one element more of the text
-put-before : (d : List ℕ) (at : ℕ) (w : List ℕ) (x i : ℕ) → i ≡ at + length w → i < length d → put (set d i x) at w ≡ put d at (w ++ x ∷ [])
-unfolding put
-put-before d at w x i e h =
-    let rest : List ℕ = drop (suc i) d in
-    let n : suc i ≡ at + length (w ++ x ∷ []) = omega (arith, length-append w (x ∷ [])) in
-    rw (sym e)
-    (ap₂ (λ (p q : List ℕ). p ++ w ++ q) (take-set-le at d i x (omega arith))
-    (ap (drop i) (set-split d i x h) ∙ drop-at (take i d) (x ∷ rest) i (length-take-le i d (omega arith)))
-    ∙ sym (append-snoc (take at d ++ w) x rest)
-    ∙ ap (λ (r : List ℕ). r ++ rest) (append-assoc (take at d) w (x ∷ []))
-    ∙ ap (λ (k : ℕ). take at d ++ (w ++ x ∷ []) ++ drop k d) n)
 
 -- the digits of v, up to index i, are still to write: with them d is d₀ with those of value from index at on
 pub record Printing (value at : ℕ) (d₀ d : List ℕ) (v i : ℕ) : Type 0 where

@@ -26,7 +26,7 @@ use Rattle.writer.specs.Spans.{offsetAt, lengthAt, stringAt, stringsFrom, isSom
 use Rattle.writer.specs.Words.{packed}
 use Rattle.writer.proofs.LayoutLaws.{length-spans}
 use Rattle.writer.proofs.ShapeLaws.{shape-is}
-use Rattle.writer.proofs.WordLaws.{length-packed}
+use Rattle.writer.proofs.WordLaws.{length-packed, padded}
 use Rattle.reader.specs.Saveobj.{dimCount, unitCount, unitsBefore, storedUnits, storedStrings, decodePayload, decodedArray, isCanonicalPayload}
 use Rattle.reader.specs.Saveobj as saveobj
 use Rattle.reader.specs.SaveobjStages.{layoutOf, checkLayout, countsOf, stringsReplyOf, UnitsChecked}
@@ -37,7 +37,7 @@ use Rattle.reader.specs.declared.saveobj.StringsReply.{StringsReply}
 use Rattle.reader.specs.declared.saveobj.StringsReply.the-variants as reply
 use Rattle.reader.proofs.saveobj.Header.{HeaderPassed, header-passed}
 use Rattle.reader.proofs.saveobj.Lengths.{count-missing, count-given, units-most}
-use Rattle.reader.proofs.units.Packed.{units-drop, units-append, repacked, padded}
+use Rattle.reader.proofs.units.Packed.{units-drop, units-append, repacked}
 use Rattle.reader.proofs.saveobj.Payload.{PayloadPassed, strings-passed, payload-passed, LayoutPassed, layout-refused, laid-out, counts-are, error-is}
 use Rattle.reader.proofs.RoundTrip.{counts-at}
 use Rattle.reader.proofs.saveobj.Strings.{length-stored}

@@ -9,29 +9,30 @@ use native.Mathlib.Omega.{arith}
 use lib.ListN.{length, getD, take, drop, length-append}
 use lib.Seq.{getD-append-add, getD-drop, drop-cons, take-at, drop-at}
 use Rattle.text.specs.Unicode.{Below}
-use Rattle.writer.specs.Words.{value, packed}
+use Rattle.writer.specs.Words.{packed}
+use Rattle.writer.proofs.WordLaws.{packed-0, packed-1, packed-2, packed-3, packed-4}
 use Rattle.reader.specs.Units.{unitAt, unitsIn}
 
 unit-packed : (us x : List ℕ) → Below 65536 us → (k : ℕ) → k < length us → unitAt (packed us ++ x) 0 k ≡ getD us k 0
-unfolding packed value unitAt
+unfolding unitAt
 unit-packed [] x h k l = absurd (omega arith)
-unit-packed (a ∷ []) x h zero l = omega arith
+unit-packed (a ∷ []) x h zero l = rw (packed-1 a) (omega arith)
 unit-packed (a ∷ []) x h (suc k) l = absurd (omega arith)
-unit-packed (a ∷ b ∷ []) x h zero l = omega arith
-unit-packed (a ∷ b ∷ []) x h (suc zero) l = omega arith
+unit-packed (a ∷ b ∷ []) x h zero l = rw (packed-2 a b) (omega arith)
+unit-packed (a ∷ b ∷ []) x h (suc zero) l = rw (packed-2 a b) (omega arith)
 unit-packed (a ∷ b ∷ []) x h (suc (suc k)) l = absurd (omega arith)
-unit-packed (a ∷ b ∷ c ∷ []) x h zero l = omega arith
-unit-packed (a ∷ b ∷ c ∷ []) x h (suc zero) l = omega arith
-unit-packed (a ∷ b ∷ c ∷ []) x h (suc (suc zero)) l = omega arith
+unit-packed (a ∷ b ∷ c ∷ []) x h zero l = rw (packed-3 a b c) (omega arith)
+unit-packed (a ∷ b ∷ c ∷ []) x h (suc zero) l = rw (packed-3 a b c) (omega arith)
+unit-packed (a ∷ b ∷ c ∷ []) x h (suc (suc zero)) l = rw (packed-3 a b c) (omega arith)
 unit-packed (a ∷ b ∷ c ∷ []) x h (suc (suc (suc k))) l = absurd (omega arith)
-unit-packed (a ∷ b ∷ c ∷ d ∷ us) x h zero l = omega arith
-unit-packed (a ∷ b ∷ c ∷ d ∷ us) x h (suc zero) l = omega arith
-unit-packed (a ∷ b ∷ c ∷ d ∷ us) x h (suc (suc zero)) l = omega arith
-unit-packed (a ∷ b ∷ c ∷ d ∷ us) x h (suc (suc (suc zero))) l = omega arith
+unit-packed (a ∷ b ∷ c ∷ d ∷ us) x h zero l = rw (packed-4 a b c d us) (omega arith)
+unit-packed (a ∷ b ∷ c ∷ d ∷ us) x h (suc zero) l = rw (packed-4 a b c d us) (omega arith)
+unit-packed (a ∷ b ∷ c ∷ d ∷ us) x h (suc (suc zero)) l = rw (packed-4 a b c d us) (omega arith)
+unit-packed (a ∷ b ∷ c ∷ d ∷ us) x h (suc (suc (suc zero))) l = rw (packed-4 a b c d us) (omega arith)
 unit-packed (a ∷ b ∷ c ∷ d ∷ us) x h (suc (suc (suc (suc k)))) l =
     let i : 0 + suc (suc (suc (suc k))) / 4 ≡ suc (0 + k / 4) = omega arith in
     let j : suc (suc (suc (suc k))) % 4 ≡ k % 4 = omega arith in
-    rw (i, j) (unit-packed us x (h .1 .1 .1 .1) k (omega arith))
+    rw (packed-4 a b c d us, i, j) (unit-packed us x (h .1 .1 .1 .1) k (omega arith))
 
 -- with words before them
 unit-within : (p us x : List ℕ) → Below 65536 us → (k : ℕ) → k < length us → unitAt (p ++ (packed us ++ x)) (length p) k ≡ getD us k 0
@@ -85,13 +86,13 @@ units-append w first k (suc a) b =
 
 -- words that n units fill, with zeros after the last one, are what packing these units gives
 pub repacked : (w : List ℕ) (n : ℕ) → ((i : ℕ) → getD w i 0 < 2 ^ 64) → length w ≡ (n + 3) / 4 → getD w (n / 4) 0 / 2 ^ (16 * (n % 4)) ≡ 0 → packed (unitsIn w 0 0 n) ≡ w
-unfolding packed value unitsIn unitAt
-repacked [] zero b l z = refl
+unfolding unitsIn unitAt
+repacked [] zero b l z = packed-0
 repacked [] (suc n) b l z = absurd (omega arith)
 repacked (x ∷ w) zero b l z = absurd (omega arith)
-repacked (x ∷ []) (suc zero) b l z = ap (λ (y : ℕ). y ∷ []) (omega arith)
-repacked (x ∷ []) (suc (suc zero)) b l z = ap (λ (y : ℕ). y ∷ []) (omega arith)
-repacked (x ∷ []) (suc (suc (suc zero))) b l z = ap (λ (y : ℕ). y ∷ []) (omega arith)
+repacked (x ∷ []) (suc zero) b l z = packed-1 _ ∙ ap (λ (y : ℕ). y ∷ []) (omega arith)
+repacked (x ∷ []) (suc (suc zero)) b l z = packed-2 _ _ ∙ ap (λ (y : ℕ). y ∷ []) (omega arith)
+repacked (x ∷ []) (suc (suc (suc zero))) b l z = packed-3 _ _ _ ∙ ap (λ (y : ℕ). y ∷ []) (omega arith)
 repacked (x ∷ y ∷ w) (suc zero) b l z = absurd (omega arith)
 repacked (x ∷ y ∷ w) (suc (suc zero)) b l z = absurd (omega arith)
 repacked (x ∷ y ∷ w) (suc (suc (suc zero))) b l z = absurd (omega arith)
@@ -100,17 +101,6 @@ repacked (x ∷ w) (suc (suc (suc (suc n)))) b l z =
     let j : suc (suc (suc (suc n))) % 4 ≡ n % 4 = omega arith in
     let h : x < 2 ^ 64 = b 0 in
     let r : x / 281474976710656 % 65536 ≡ x / 281474976710656 = omega arith in
-    ap₂ (λ (y : ℕ) (r : List ℕ). y ∷ r) (omega arith)
+    packed-4 _ _ _ _ _
+    ∙ ap₂ (λ (y : ℕ) (r : List ℕ). y ∷ r) (omega arith)
     (ap packed (units-later x w 0 n) ∙ repacked w n (λ i. b (suc i)) (omega arith) (rw (i, j) at z))
-
--- and after the last unit packing leaves zeros
-pub padded : (us : List ℕ) → Below 65536 us → getD (packed us) (length us / 4) 0 / 2 ^ (16 * (length us % 4)) ≡ 0
-unfolding packed value
-padded [] h = refl
-padded (a ∷ []) h = omega arith
-padded (a ∷ b ∷ []) h = omega arith
-padded (a ∷ b ∷ c ∷ []) h = omega arith
-padded (a ∷ b ∷ c ∷ d ∷ us) h =
-    let i : suc (suc (suc (suc (length us)))) / 4 ≡ suc (length us / 4) = omega arith in
-    let j : suc (suc (suc (suc (length us)))) % 4 ≡ length us % 4 = omega arith in
-    rw (i, j) (padded us (h .1 .1 .1 .1))

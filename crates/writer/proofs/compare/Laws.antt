@@ -1,7 +1,7 @@
 -- Comparing bytes with the metadata blob, part by part.
 -- Assumes nothing.
 use mathlib.Core.Path.{_≡_, refl, sym, ap, _∙_}
-use mathlib.Core.Bool.{Bool, true, false, not, _&&_, and-assoc, and-false}
+use mathlib.Core.Bool.{Bool, true, false, not, _&&_, and-false}
 use mathlib.Core.List.{List, [], _∷_, _++_, flatMap, append-assoc}
 use Prim.Native.Nat.{ℕ, suc, _+_, _-_, _*_, _/_, _%_, _^_, _≤_, _<_}
 use native.Mathlib.Nat.{add-zero, sub-zero}
@@ -12,7 +12,7 @@ use lib.Dec.{eqb}
 use lib.ListN.{length, replicate, getD, take, drop, length-append, drop-of-length-le}
 use lib.Seq.{drop-cons, drop-drop, take-all}
 use Rattle.text.specs.Buffer.{same}
-use Rattle.text.proofs.SameLaws.{same-refl, same-not}
+use Rattle.text.proofs.SameLaws.{same-refl, same-not, same-append}
 use Rattle.text.proofs.TestLaws.{either}
 use Rattle.writer.specs.FileWrapper.{u32Bytes, u32s, nameHeap, classEntries, entry, zeroEntry, entriesFrom, region, regions, offsetsFrom, fileWrapper, isFileWrapper}
 use Rattle.writer.specs.Stages.{standsAt, Has, fileHead}
@@ -22,20 +22,13 @@ use Rattle.writer.proofs.FileWrapperLaws.{length-u32s, entrySize, lengt
 
 -- ---- one part after another
 
--- a list begins with w ++ x where it begins with w and goes on with x
-same-append : (l w x : List ℕ) → same (take (length (w ++ x)) l) (w ++ x) ≡ (same (take (length w) l) w && same (take (length x) (drop (length w) l)) x)
-unfolding same
-same-append l [] x = refl
-same-append [] (a ∷ w) x = refl
-same-append (c ∷ l) (a ∷ w) x = rw (same-append l w x) (sym (and-assoc (eqb c a) _ _))
-
 stands-append : (b w : List ℕ) (i j : ℕ) → i + length w ≡ j → (x : List ℕ) → standsAt b i (w ++ x) ≡ (standsAt b i w && standsAt b j x)
 unfolding standsAt
 stands-append b w i j h x = same-append (drop i b) w x ∙ rw (drop-drop (length w) i b, h)
 
 stands-none : (b : List ℕ) (i : ℕ) → standsAt b i [] ≡ true
-unfolding standsAt same
-stands-none b i = refl
+unfolding standsAt
+stands-none b i = same-refl []
 
 -- ---- a word
 

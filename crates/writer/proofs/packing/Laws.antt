@@ -17,7 +17,7 @@ use Rattle.text.specs.declared.utf8.Step.{Step}
 use Rattle.text.specs.declared.utf8.Step.the-variants.{Scalar, IllFormed, End}
 use Rattle.text.proofs.BufferLaws.{put-none, put-one}
 use Rattle.text.proofs.LeadLaws.{step-1}
-use Rattle.text.proofs.PartLaws.{step-reads, step-end, parts-scalar, parts-ill-formed, parts-end, left, scalar-less}
+use Rattle.text.proofs.PartLaws.{step-reads, step-end, scalars-scalar, scalars-ill-formed, scalars-end, left, left-less, scalar-less}
 use Rattle.text.proofs.ScalarLaws.{is-scalar, scalar-is, lengths, below-append, utf16-1, utf16-2, utf16s-nil, utf16s-cons}
 use Rattle.text.proofs.TestLaws.{cond-both}
 use Rattle.text.proofs.Utf8Laws.{map-is, not-some, step-took}
@@ -262,10 +262,9 @@ ascii-within t i (u ∷ w ∷ us) a h = omega (arith, ascii-within t (i + 1) (w 
 
 -- they are among the units that are left
 ascii-most : (t : List ℕ) (i : ℕ) (us : List ℕ) → Ascii t i us → {more : List ℕ} → scalarsOf (partsFrom t i) ≡ some more → length us ≤ length (utf16s more)
-unfolding scalarsOf
 ascii-most t i [] a e = omega arith
 ascii-most t i (u ∷ us) a {more} e =
-    let o = map-is (λ vs. u ∷ vs) (scalarsOf (partsFrom t (i + 1))) (rw (parts-scalar t i (step-1 t i u (a .1 .0) (a .0) (a .1 .1 .0))) at e) in
+    let o = map-is (λ vs. u ∷ vs) (scalarsOf (partsFrom t (i + 1))) (rw (scalars-scalar t i (step-1 t i u (a .1 .0) (a .0) (a .1 .1 .0))) at e) in
     let n : length (utf16s more) ≡ length (utf16 u ++ utf16s (o .0)) = ap length (ap utf16s (o .1 .1) ∙ utf16s-cons u (o .0)) in
     omega (arith, ascii-most t (i + 1) us (a .1 .1 .1) (o .1 .0), n, length-append (utf16 u) (utf16s (o .0)), lengths u .least)
 
@@ -324,8 +323,7 @@ module _ (t : List ℕ) (first : ℕ) (d₀ : List ℕ) (c₀ : Carry) (room : P
 
     module _ {v next : ℕ} (g : stepAt t i ≡ Scalar v next) where
       split : (us : List ℕ) × ((scalarsOf (partsFrom t next) ≡ some us) × (m .more ≡ v ∷ us))
-      unfolding scalarsOf
-      split = map-is (λ us. v ∷ us) (scalarsOf (partsFrom t next)) (rw (parts-scalar t i g) at (m .rest))
+      split = map-is (λ us. v ∷ us) (scalarsOf (partsFrom t next)) (rw (scalars-scalar t i g) at (m .rest))
 
       longer : stringUnits t ≡ (m .done ++ utf16 v) ++ utf16s (split .0)
       longer =
@@ -346,18 +344,16 @@ module _ (t : List ℕ) (first : ℕ) (d₀ : List ℕ) (c₀ : Carry) (room : P
       push-turn p = record { done = m .done ++ utf16 v; more = split .0; rest = split .1 .0; whole = longer; pushed = pushed-then (m .pushed) p }
 
     sequence-by : (x : Step) → stepAt t i ≡ x → i < length t → 128 ≤ getD t i 0 → SequenceAt t i
-    unfolding scalarsOf
     sequence-by (Scalar v next) g h l = record { value = v; next = next; is = g; long = l }
-    sequence-by (IllFormed next) g h l = not-some (rw (parts-ill-formed t i g) at (m .rest))
+    sequence-by (IllFormed next) g h l = not-some (rw (scalars-ill-formed t i g) at (m .rest))
     sequence-by End g h l = absurd (omega (arith, step-end t i g))
 
     pub push-sequence : i < length t → 128 ≤ getD t i 0 → SequenceAt t i
     push-sequence h l = sequence-by (stepAt t i) refl h l
 
     pub push-last : length t ≤ i → Pushed first d₀ c₀ (stringUnits t) d c
-    unfolding scalarsOf
     push-last h =
-        let o : some [] ≡ some (m .more) = rw (parts-end t i h) at (m .rest) in
+        let o : some [] ≡ some (m .more) = rw (scalars-end t i h) at (m .rest) in
         let n : m .more ≡ [] = cc in
         let w : stringUnits t ≡ m .done =
         m .whole ∙ ap (λ (vs : List ℕ). m .done ++ utf16s vs) n ∙ ap (λ (us : List ℕ). m .done ++ us) utf16s-nil ∙ append-nil (m .done) in
@@ -394,8 +390,7 @@ module _ (t : List ℕ) (first : ℕ) (d₀ : List ℕ) (c₀ : Carry) (room : P
     ascii-fits h = omega (arith, ascii-inside)
 
     pub ascii-less : left t (i + (c' .count - c .count)) < left t i
-    unfolding left
-    ascii-less = omega (arith, ascii-inside, ascii-count, q .some)
+    ascii-less = left-less t i (i + (c' .count - c .count)) (omega (arith, ascii-count, q .some)) ascii-inside
 
 pub sequence-less : (t : List ℕ) (i : ℕ) {v next : ℕ} → stepAt t i ≡ Scalar v next → left t next < left t i
 sequence-less t i g = scalar-less t i refl g

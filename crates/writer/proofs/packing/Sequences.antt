@@ -12,7 +12,7 @@ use Rattle.text.specs.Utf8.{sequenceLength, valueAt, stepAt}
 use Rattle.text.specs.declared.utf8.Step.the-variants.{Scalar}
 use Rattle.text.proofs.LeadLaws.{not-one}
 use Rattle.text.proofs.PartLaws.{Reads, step-reads}
-use Rattle.text.proofs.StepLaws.{length-le}
+use Rattle.text.proofs.StepLaws.{length-le, value-2, value-3, value-4}
 use Rattle.text.proofs.Utf8Laws.{starts, value-is, next-after}
 use Rattle.writer.specs.Packing.{SequenceAt}
 
@@ -67,13 +67,11 @@ module _ (s : List ℕ) (i : ℕ) (q : SequenceAt s i) where
       pub of-four :
           stepAt s i
           ≡ Scalar (getD s i 0 % 8 * 262144 + getD s (i + 1) 0 % 64 * 4096 + getD s (i + 2) 0 % 64 * 64 + getD s (i + 3) 0 % 64) (i + 4)
-      unfolding valueAt
-      of-four = step-is 4 four (omega arith)
+      of-four = rw (value-4 s i) at (step-is 4 four (omega arith))
 
     module _ (n₄ : r₄ ≡ false) {r₂ : Bool} (is₂ : r₂ ≡ eqb (sequenceLength (getD s i 0)) 2) where
       pub of-two : r₂ ≡ true → stepAt s i ≡ Scalar (getD s i 0 % 32 * 64 + getD s (i + 1) 0 % 64) (i + 2)
-      unfolding valueAt
-      of-two t = step-is 2 (eqb-true (sequenceLength (getD s i 0)) 2 (sym is₂ ∙ t)) (omega arith)
+      of-two t = rw (value-2 s i) at (step-is 2 (eqb-true (sequenceLength (getD s i 0)) 2 (sym is₂ ∙ t)) (omega arith))
 
       module _ (n₂ : r₂ ≡ false) where
         three : sequenceLength (getD s i 0) ≡ 3
@@ -85,8 +83,7 @@ module _ (s : List ℕ) (i : ℕ) (q : SequenceAt s i) where
         third-there = omega (arith, three, inside)
 
         pub of-three : stepAt s i ≡ Scalar (getD s i 0 % 16 * 4096 + getD s (i + 1) 0 % 64 * 64 + getD s (i + 2) 0 % 64) (i + 3)
-        unfolding valueAt
-        of-three = step-is 3 three (omega arith)
+        of-three = rw (value-3 s i) at (step-is 3 three (omega arith))
 
 pub ruleset there = (first-there, second-there, third-there-of-four, fourth-there)
 
