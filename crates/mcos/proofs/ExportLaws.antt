@@ -18,8 +18,7 @@ use Rattle.text.specs.declared.utf8.LossyReply.the-variants as lossyReply
 use Rattle.text.proofs.ResultLaws.{reply-is}
 use Rattle.writer.specs.Array.{Array}
 use Rattle.writer.specs.Spans.{joined, spansFrom}
-use Rattle.reader.specs.Replies.{findReplyOf}
-use Rattle.reader.specs.SaveobjStages.{Counts, countsOf}
+use Rattle.reader.specs.Replies.{findReplyOf, Counts, countsOf}
 use Rattle.reader.specs.declared.find.FindReply.{FindReply}
 use Rattle.reader.specs.declared.find.FindReply.the-variants as find
 use Rattle.store.specs.Replies.{editReplyOf, Edits}

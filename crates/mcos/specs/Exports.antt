@@ -10,7 +10,7 @@ use Rattle.text.specs.Utf8.{partsFrom, replacedIn, lossy}
 use Rattle.writer.specs.Array.{Array}
 use Rattle.writer.specs.Spans.{joined, spansFrom}
 use Rattle.reader.specs.Queries.{intoOutput}
-use Rattle.reader.specs.SaveobjStages.{Counts, countsOf}
+use Rattle.reader.specs.Replies.{Counts, countsOf}
 use Rattle.reader.specs.declared.file_wrapper.FileWrapper.{FileWrapper}
 use Rattle.reader.specs.declared.labels.Part.{Part}
 use Rattle.reader.specs.declared.labels.Source.{Source}

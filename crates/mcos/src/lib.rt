@@ -48,9 +48,8 @@ ghost use Rattle.reader.specs.Objects.{findProperty, objectRows, objectTriples,
 ghost use Rattle.reader.specs.Opaque.{opaqueMetadata};
 ghost use Rattle.reader.specs.Opening.{opened};
 ghost use Rattle.reader.specs.Queries.{intoOutput, nameText, classText, objectClassText};
-ghost use Rattle.reader.specs.Replies.{nameReplyOf};
+ghost use Rattle.reader.specs.Replies.{nameReplyOf, stringsReplyOf};
 ghost use Rattle.reader.specs.Saveobj.{decodePayload, intoStrings};
-ghost use Rattle.reader.specs.SaveobjStages.{stringsReplyOf};
 ghost use Rattle.store.specs.Edits.{appended, replaced};
 ghost use Rattle.store.specs.Replies.{editReplyOf};
 ghost use Rattle.mcos.specs.Exports.{countCells, editCells, layoutOf, opaqueCells, partCells, sourceCell, storeIn, Exports, ExportsEdit, ExportsFound, ExportsList, ExportsLossy, ExportsStrings};

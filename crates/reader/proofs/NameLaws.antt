@@ -21,8 +21,10 @@ use Rattle.text.proofs.BufferLaws.{length-over}
 use Rattle.text.proofs.ResultLaws.{reply-is, same-value, check-passed, seq-passed, bind-passed, checkEach-passed}
 use Rattle.text.proofs.TestLaws.{either}
 use Rattle.reader.specs.Blocks.{blocks}
-use Rattle.reader.specs.Names.{nameBytes, HasName, IsName, InBlob}
-use Rattle.reader.specs.Opening.{declaredNames, offset, offsets, isWithin, isOrdered, pieceCount, fileWrapper, regions, layout, emptyWrapper, opened, Opens}
+use Rattle.reader.specs.Names.{nameBytes}
+use Rattle.reader.specs.Stages.Names.{HasName, IsName, InBlob}
+use Rattle.reader.specs.Opening.{declaredNames, offset, offsets, isWithin, isOrdered, pieceCount, fileWrapper, regions, layout, emptyWrapper, opened}
+use Rattle.reader.specs.Stages.Opening.{Opens}
 use Rattle.reader.specs.Queries.{intoOutput, nameText}
 use Rattle.reader.specs.Replies.{parseReplyOf, nameReplyOf, WritesText}
 use Rattle.reader.specs.declared.file_wrapper.FileWrapper.{FileWrapper}

@@ -1,12 +1,10 @@
 -- Property blocks: "A block is a count, that many triples, then a step up to a multiple of 8 counted from the blob's start; a block begins
 -- while 4 bytes remain." The size of an entry is an argument: 12 for triples.
 -- Assumes nothing.
-use Prim.Native.Nat.{ℕ, zero, suc, _+_, _-_, _*_, _/_, _≤_}
-use mathlib.Core.Path.{_≡_}
+use Prim.Native.Nat.{ℕ, _+_, _*_, _/_, zero, suc, _-_}
 use mathlib.Core.Bool.{cond}
 use mathlib.Core.List.{List}
 use lib.Dec.{leb}
-use lib.ListN.{length}
 use Rattle.text.specs.Result.{Result, ok, check, _>>_}
 use Rattle.reader.specs.Wire.{u32At}
 
@@ -37,16 +35,3 @@ blocksFrom size b i e n = blocksCount (e - i) size b i e n
 -- 7: "Is every property block whole", for the region from i up to e
 abbrev pub blocks : ℕ → List ℕ → ℕ → ℕ → Result ℕ
 blocks size b i e = blocksFrom size b i e 0
-
--- blocks 0 to k of the region that begins at start are whole
-pub record HasBlock (size : ℕ) (b : List ℕ) (start k : ℕ) : Type 0 where
-  pub most : length b ≤ 16777216
-  pub small : size ≤ 12
-  pub inside : (j : ℕ) → j ≤ k → blockEnd size b (blockAt size b start j) ≤ length b
-
--- the bytes from i up to e are a region of the blob, and entries are small enough for its sums
-pub record IsRegion (b : List ℕ) (i e size : ℕ) : Type 0 where
-  pub order : i ≤ e
-  pub inside : e ≤ length b
-  pub most : length b ≤ 16777216
-  pub small : size ≤ 12

@@ -1,15 +1,12 @@
 -- The name heap.
 -- Assumes nothing.
-use Prim.Native.Nat.{ℕ, _+_, _-_, _≤_}
-use mathlib.Core.Path.{_≡_}
+use Prim.Native.Nat.{ℕ, _-_, _+_}
 use mathlib.Core.Bool.{cond}
 use mathlib.Core.List.{List, [], _∷_}
-use lib.Dec.{leb, eqb}
-use lib.ListN.{length, getD, take, drop}
+use lib.Dec.{eqb}
+use lib.ListN.{getD, length, take}
 use lib.Seq.{slice}
 use Rattle.text.specs.Utf8.{lossy}
-use Rattle.reader.specs.declared.names.Piece.{Piece}
-use Rattle.reader.specs.declared.names.Skipped.{Skipped}
 
 -- one byte before the first piece
 abbrev pub onto : ℕ → List (List ℕ) → List (List ℕ)
@@ -20,10 +17,6 @@ onto x (p ∷ ps) = (x ∷ p) ∷ ps
 unfoldable pub pieces : List ℕ → List (List ℕ)
 pieces [] = [] ∷ []
 pieces (x ∷ xs) = cond (eqb x 0) ([] ∷ pieces xs) (onto x (pieces xs))
-
--- the pieces from byte i up to end, none past it
-unfoldable pub piecesFrom : List ℕ → ℕ → ℕ → List (List ℕ)
-piecesFrom b end i = cond (leb i end) (pieces (slice i end b)) []
 
 -- "The name heap is bytes 40 to offset 0"
 abbrev pub heapOf : List ℕ → ℕ → List ℕ
@@ -45,78 +38,3 @@ nameStart b end i = 40 + lengthWithZeros (take (i - 1) (pieces (heapOf b end)))
 -- the name as it is shown: "each maximal ill-formed part becomes EF BF BD"
 abbrev pub shownName : List ℕ → ℕ → ℕ → List ℕ
 shownName b end i = lossy (nameBytes b end i)
-
--- ---- what the stages that find a name promise each other
-
--- how many bytes are zero
-unfoldable pub zeros : List ℕ → ℕ
-zeros [] = 0
-zeros (x ∷ xs) = cond (eqb x 0) 1 0 + zeros xs
-
--- n zero bytes from start up to i
-pub record Counted (b : List ℕ) (start i n : ℕ) : Type 0 where
-  pub order : start ≤ i
-  pub few : n ≤ i - start
-  pub is : n ≡ zeros (slice start i b)
-
--- the bytes that were passed hold no more than most zero bytes
-pub record Skips (b : List ℕ) (start end most : ℕ) (s : Skipped) : Type 0 where
-  pub bound : s .at ≤ end
-  pub few : s .zeros ≤ most
-  pub counted : Counted b start (s .at) (s .zeros)
-
--- the pieces of the heap up to end; none where it would end before byte 40, as in a blob of length 0
-abbrev pub heapPieces : List ℕ → ℕ → List (List ℕ)
-heapPieces b end = piecesFrom b end 40
-
--- the heap up to end has piece index, from 1
-pub record HasPiece (b : List ℕ) (end index : ℕ) : Type 0 where
-  pub inside : end ≤ length b
-  pub least : 1 ≤ index
-  pub most : index ≤ length (heapPieces b end)
-
--- the first piece from start on ends at i, and the next one begins after it
-pub record FirstPiece (b : List ℕ) (start end i : ℕ) : Type 0 where
-  pub order : start ≤ i
-  pub inside : i ≤ end
-  pub is : pieces (slice start end b) ≡ slice start i b ∷ piecesFrom b end (i + 1)
-
--- name index is the empty name or a piece of the heap
-pub record HasName (b : List ℕ) (end index : ℕ) : Type 0 where
-  pub inside : end ≤ length b
-  pub most : index ≤ length (heapPieces b end)
-
--- piece x, where there is one, begins at start; for the empty name, 0, piece 1
-pub record Standing (b : List ℕ) (end x start : ℕ) : Type 0 where
-  pub rest : piecesFrom b end start ≡ drop (x - 1) (heapPieces b end)
-
--- there is piece index, and it begins at i
-pub record Starts (b : List ℕ) (end index i : ℕ) : Type 0 where
-  pub inside : i ≤ end
-  pub stands : Standing b end index i
-
--- the bytes of a piece
-abbrev pub pieceBytes : List ℕ → Piece → List ℕ
-pieceBytes b p = slice (p .start) (p .end) b
-
--- the bytes of name index
-pub record IsName (b : List ℕ) (end index : ℕ) (p : Piece) : Type 0 where
-  pub order : p .start ≤ p .end
-  pub inside : p .end ≤ length b
-  pub is : pieceBytes b p ≡ nameBytes b end index
-
--- a piece lies in the blob, which is short enough for any sum of its bytes
-pub record InBlob (b : List ℕ) (p : Piece) : Type 0 where
-  pub order : p .start ≤ p .end
-  pub inside : p .end ≤ length b
-  pub most : length b ≤ 16777216
-
--- the repaired length of a piece
-pub record IsLength (b : List ℕ) (p : Piece) (n : ℕ) : Type 0 where
-  pub is : n ≡ length (lossy (pieceBytes b p))
-  pub most : n ≤ 50331648
-
--- two pieces of a blob
-pub record BothInBlob (b : List ℕ) (p q : Piece) : Type 0 where
-  pub first : InBlob b p
-  pub second : InBlob b q

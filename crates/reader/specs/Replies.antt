@@ -9,37 +9,26 @@ use Rattle.text.specs.Errors.{failureOf}
 use Rattle.text.specs.Replies.{lengthReplyOf}
 use Rattle.text.specs.Result.{Result, ok, error, mapResult, overwritten}
 use Rattle.text.specs.declared.reply.LengthReply.{LengthReply}
+use Rattle.writer.specs.Spans.{joined, spansFrom}
 use Rattle.reader.specs.Objects.{rowOf, objectRows}
 use Rattle.reader.specs.Queries.{intoOutput}
+use Rattle.reader.specs.Saveobj.{intoStrings}
 use Rattle.reader.specs.declared.file_wrapper.FileWrapper.{FileWrapper}
 use Rattle.reader.specs.declared.file_wrapper.ParseReply.{ParseReply}
 use Rattle.reader.specs.declared.file_wrapper.ParseReply.the-variants as parse
-use Rattle.reader.specs.declared.blocks.BlockCount.{BlockCount}
-use Rattle.reader.specs.declared.blocks.BlockCount.the-variants as count
-use Rattle.reader.specs.declared.classes.ClassReply.{ClassReply}
-use Rattle.reader.specs.declared.classes.ClassReply.the-variants as class
 use Rattle.reader.specs.declared.find.FindReply.{FindReply}
 use Rattle.reader.specs.declared.find.FindReply.the-variants as find
 use Rattle.reader.specs.declared.names.NameReply.{NameReply}
 use Rattle.reader.specs.declared.names.NameReply.the-variants as name
 use Rattle.reader.specs.declared.objects.ObjectRow.{ObjectRow}
-use Rattle.reader.specs.declared.records.ClassEntry.{ClassEntry}
 use Rattle.reader.specs.declared.records.Triple.{Triple}
+use Rattle.reader.specs.declared.saveobj.StringsReply.{StringsReply}
+use Rattle.reader.specs.declared.saveobj.StringsReply.the-variants as strings
 
 -- what opening answers, or the refusal
 abbrev pub parseReplyOf : ParseReply → Result FileWrapper
 parseReplyOf (parse.Parsed w) = ok w
 parseReplyOf (parse.Error e) = error (failureOf e)
-
--- the entry of a class, or the refusal
-abbrev pub classReplyOf : ClassReply → Result ClassEntry
-classReplyOf (class.Entry e) = ok e
-classReplyOf (class.Error e) = error (failureOf e)
-
--- the blocks of a region, or 7
-abbrev pub blockCountOf : BlockCount → Result ℕ
-blockCountOf (count.Blocks n) = ok n
-blockCountOf (count.Truncated i) = error (record { number = 7; place = i })
 
 -- a text's length in bytes, or the refusal
 abbrev pub nameReplyOf : NameReply → Result ℕ
@@ -66,3 +55,23 @@ findReplyOf (find.Error e) = error (failureOf e)
 pub record WritesObjects (b : List ℕ) (rows : List ObjectRow) (r : LengthReply) (rows' : List ObjectRow) : Type 0 where
   pub reply : lengthReplyOf r ≡ mapResult length (intoOutput (objectRows b) (length rows))
   pub buffer : rows' ≡ overwritten (λ x. x) (intoOutput (objectRows b) (length rows)) rows
+
+-- "text bytes and number of strings"
+pub record Counts : Type 0 where
+  pub bytes : ℕ
+  pub strings : ℕ
+
+-- those of strings
+abbrev pub countsOf : List (List ℕ) → Counts
+countsOf ss = record { bytes = length (joined ss); strings = length ss }
+
+-- what decoding replies, or the refusal
+abbrev pub stringsReplyOf : StringsReply → Result Counts
+stringsReplyOf (strings.Strings b n) = ok (record { bytes = b; strings = n })
+stringsReplyOf (strings.Error e) = error (failureOf e)
+
+-- a call that writes the strings that a query comes to, as UTF-8 text end to end, and their spans
+pub record DecodesStrings (m : Result (List (List ℕ))) (text spans : List ℕ) (r : StringsReply) (text' spans' : List ℕ) : Type 0 where
+  pub reply : stringsReplyOf r ≡ mapResult countsOf (intoStrings m (length text) (length spans))
+  pub text-after : text' ≡ overwritten joined (intoStrings m (length text) (length spans)) text
+  pub spans-after : spans' ≡ overwritten (spansFrom 0) (intoStrings m (length text) (length spans)) spans

@@ -3,8 +3,8 @@ use crate::records::read_u32;
 ghost use mathlib.Core.Path.{_≡_};
 ghost use Prim.Native.Nat.{_+_, _-_, _*_, _/_, _≤_};
 ghost use lib.ListN.{length};
-ghost use Rattle.reader.specs.Blocks.{blockEnd, blockAt, blocks, HasBlock, IsRegion};
-ghost use Rattle.reader.specs.Replies.{blockCountOf};
+ghost use Rattle.reader.specs.Blocks.{blockEnd, blockAt, blocks};
+ghost use Rattle.reader.specs.Stages.Blocks.{HasBlock, IsRegion, blockCountOf};
 
 // The end of the block at a byte.
 fn block_end(blob: &[u8], at: usize, size: usize) -> usize

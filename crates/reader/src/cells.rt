@@ -8,7 +8,7 @@ ghost use lib.ListN.{length};
 ghost use Rattle.text.specs.Replies.{checkedOf};
 ghost use Rattle.text.specs.Result.{checkEach};
 ghost use Rattle.reader.specs.Cells.{liesIn, isCell, checkDirectory, cellAt, cellOf};
-ghost use Rattle.reader.specs.CellStages.{IsDirectory, ReadsCell};
+ghost use Rattle.reader.specs.Stages.Cells.{IsDirectory, ReadsCell};
 
 // The most values of a directory.
 const MAX_DIRECTORY: usize = 699044;

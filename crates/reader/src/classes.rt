@@ -23,10 +23,11 @@ ghost use Rattle.text.specs.Replies.{checkedOf};
 ghost use Rattle.text.specs.Result.{ok};
 ghost use Rattle.text.specs.Utf8.{lossy};
 ghost use Rattle.reader.specs.Decode.{checkString, stringClass};
-ghost use Rattle.reader.specs.Names.{pieceBytes, InBlob, IsLength, BothInBlob};
-ghost use Rattle.reader.specs.Opening.{Opens};
+ghost use Rattle.reader.specs.Stages.Names.{pieceBytes, InBlob, IsLength, BothInBlob};
+ghost use Rattle.reader.specs.Stages.Opening.{Opens};
 ghost use Rattle.reader.specs.Queries.{checkNames, entryText, entryOf, classOf, classText, objectClassText};
-ghost use Rattle.reader.specs.Replies.{classReplyOf, WritesText};
+ghost use Rattle.reader.specs.Stages.Classes.{classReplyOf};
+ghost use Rattle.reader.specs.Replies.{WritesText};
 
 // The repaired length of a piece.
 fn piece_length(blob: &[u8], piece: Piece) -> usize

@@ -15,10 +15,11 @@ use text::reply::Checked;
 ghost use mathlib.Core.Path.{_≡_};
 ghost use lib.ListN.{length};
 ghost use Rattle.text.specs.Result.{mapResult};
-ghost use Rattle.reader.specs.CellStages.{IsDirectory};
+ghost use Rattle.reader.specs.Stages.Cells.{IsDirectory};
 ghost use Rattle.reader.specs.Decode.{idStrings, idsStrings, metadataStrings};
-ghost use Rattle.reader.specs.DecodeStages.{IdFits, IdsThere, IdsFit};
-ghost use Rattle.reader.specs.SaveobjStages.{countsOf, stringsReplyOf, origin, WritesAt, DecodesStrings};
+ghost use Rattle.reader.specs.Stages.Decode.{IdFits, IdsThere, IdsFit};
+ghost use Rattle.reader.specs.Replies.{countsOf, stringsReplyOf, DecodesStrings};
+ghost use Rattle.reader.specs.Stages.Saveobj.{origin, WritesAt};
 
 // Checks 14, 15 and 22 to 29 for one id, and what its strings need.
 fn measure_id(directory: &[u64], kinds: &[u8], words: &[u64], id: u32) -> StringsReply

@@ -13,7 +13,8 @@ ghost use Prim.Native.Nat.{_≤_, _<_};
 ghost use lib.ListN.{length};
 ghost use Rattle.text.specs.Replies.{checkedOf};
 ghost use Rattle.text.specs.Result.{checkEach};
-ghost use Rattle.reader.specs.Opening.{offset, offsets, isWithin, isOrdered, Ordered, regions, emptyWrapper, opened};
+ghost use Rattle.reader.specs.Opening.{offset, offsets, isWithin, isOrdered, regions, emptyWrapper, opened};
+ghost use Rattle.reader.specs.Stages.Opening.{Ordered};
 ghost use Rattle.reader.specs.Replies.{parseReplyOf};
 
 // The most bytes of a blob, and the length of its header.

@@ -11,7 +11,8 @@ ghost use mathlib.Core.Path.{_≡_};
 ghost use Prim.Native.Nat.{_+_, _≤_, _<_};
 ghost use lib.ListN.{length};
 ghost use Rattle.reader.specs.Objects.{isNamed, findProperty, triplesFrom};
-ghost use Rattle.reader.specs.ObjectStages.{TriplesIn, PassedTriples, firstIndex, firstOf, flagged, ToNames, Looks, Marks, Advances};
+ghost use Rattle.reader.specs.Stages.Properties.{TriplesIn, PassedTriples};
+ghost use Rattle.reader.specs.Stages.Find.{firstIndex, firstOf, flagged, ToNames, Looks, Marks, Advances};
 ghost use Rattle.reader.specs.Replies.{findReplyOf};
 
 // So many names are looked at, and flagged, before the triples are searched once for all of them: a search for each name by itself

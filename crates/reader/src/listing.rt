@@ -20,10 +20,10 @@ ghost use mathlib.Core.Path.{_≡_};
 ghost use Prim.Native.Nat.{_+_, _-_, _*_, _≤_, _<_};
 ghost use lib.ListN.{length};
 ghost use Rattle.text.specs.Replies.{lengthReplyOf};
-ghost use Rattle.reader.specs.Blocks.{HasBlock};
-ghost use Rattle.reader.specs.ListingStages.{checkObjects, objectsCheckOf, PlanFor, IsPlan, firstEntry, Fills, HasIndex, cursorOf, withCursor, firstCursors, cursorFrom, cursorAt, Nears, Nearest, ToBlock, IsListing, Lists, listingReplyOf, countOf, Starts, ToNext, NextObject, objectList};
+ghost use Rattle.reader.specs.Stages.Blocks.{HasBlock};
+ghost use Rattle.reader.specs.Stages.Listing.{checkObjects, objectsCheckOf, PlanFor, IsPlan, firstEntry, Fills, HasIndex, cursorOf, withCursor, firstCursors, cursorFrom, cursorAt, Nears, Nearest, ToBlock, IsListing, Lists, listingReplyOf, countOf, Starts, ToNext, NextObject, objectList};
 ghost use Rattle.reader.specs.Objects.{regionStart, noRow, blankRows};
-ghost use Rattle.reader.specs.Opening.{Opens};
+ghost use Rattle.reader.specs.Stages.Opening.{Opens};
 ghost use Rattle.reader.specs.Replies.{WritesObjects};
 
 // The block ids that were met last in each region, and whether one was below the one before it.

@@ -11,7 +11,8 @@ ghost use lib.ListN.{length};
 ghost use lib.Seq.{slice};
 ghost use Rattle.text.specs.Result.{ok};
 ghost use Rattle.text.specs.Utf8.{lossy};
-ghost use Rattle.reader.specs.Names.{pieces, Counted, Skips, HasPiece, Starts, FirstPiece, HasName, IsName, pieceBytes, InBlob};
+ghost use Rattle.reader.specs.Names.{pieces};
+ghost use Rattle.reader.specs.Stages.Names.{Counted, Skips, HasPiece, Starts, FirstPiece, HasName, IsName, pieceBytes, InBlob};
 ghost use Rattle.reader.specs.Queries.{nameText};
 ghost use Rattle.reader.specs.Replies.{WritesText};
 

@@ -10,9 +10,9 @@ ghost use mathlib.Core.Path.{_≡_};
 ghost use Prim.Native.Nat.{_<_};
 ghost use Rattle.text.specs.Replies.{checkedOf};
 ghost use Rattle.reader.specs.Objects.{regionStart, regionBlocks, checkBlock};
-ghost use Rattle.reader.specs.Opening.{Opens};
+ghost use Rattle.reader.specs.Stages.Opening.{Opens};
 ghost use Rattle.reader.specs.Queries.{checkObject, objectRecord};
-ghost use Rattle.reader.specs.ObjectStages.{blockOf, rowFrom, ReadsObject};
+ghost use Rattle.reader.specs.Stages.Objects.{blockOf, rowFrom, ReadsObject};
 
 // An object: its class, the region of its property block (0 saved, 1 normal), the block's id there, and how many properties it has.
 #[repr(C)]

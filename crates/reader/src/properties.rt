@@ -14,8 +14,8 @@ ghost use Prim.Native.Nat.{_≤_, _<_};
 ghost use lib.ListN.{length, drop};
 ghost use Rattle.text.specs.Replies.{checkedOf};
 ghost use Rattle.reader.specs.Objects.{triplesFrom, checkTriple, checkTriples, rowOf, objectTriples};
-ghost use Rattle.reader.specs.ObjectStages.{TriplesIn, RecordTriples, ReadsTriples};
-ghost use Rattle.reader.specs.Opening.{Opens};
+ghost use Rattle.reader.specs.Stages.Properties.{TriplesIn, RecordTriples, ReadsTriples};
+ghost use Rattle.reader.specs.Stages.Opening.{Opens};
 ghost use Rattle.reader.specs.Queries.{objectRecord};
 ghost use Rattle.reader.specs.Replies.{WritesRows};
 

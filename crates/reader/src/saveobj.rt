@@ -17,7 +17,8 @@ ghost use lib.ListN.{length};
 ghost use Rattle.text.specs.Replies.{checkedOf};
 ghost use Rattle.text.specs.Result.{mapResult};
 ghost use Rattle.reader.specs.Saveobj.{unitCount, storedStrings, checkHeader, checkSum, checkStrings, decodePayload, isCanonicalPayload, checkOutputs};
-ghost use Rattle.reader.specs.SaveobjStages.{numberOf, headerOf, layoutOf, checkLayout, countsOf, stringsReplyOf, UnitsChecked, StringsFit, WritesStrings, FitsAt, WritesAt, DecodesStrings};
+ghost use Rattle.reader.specs.Stages.Saveobj.{numberOf, headerOf, layoutOf, checkLayout, UnitsChecked, StringsFit, WritesStrings, FitsAt, WritesAt};
+ghost use Rattle.reader.specs.Replies.{countsOf, stringsReplyOf, DecodesStrings};
 
 // The length that marks a missing string.
 const MISSING: u64 = 0xFFFF_FFFF_FFFF_FFFF;

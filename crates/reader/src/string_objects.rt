@@ -20,12 +20,12 @@ ghost use mathlib.Core.List.{[], _∷_};
 ghost use Prim.Native.Nat.{_<_};
 ghost use lib.ListN.{length};
 ghost use Rattle.text.specs.Result.{ok};
-ghost use Rattle.reader.specs.CellStages.{IsDirectory};
+ghost use Rattle.reader.specs.Stages.Cells.{IsDirectory};
 ghost use Rattle.reader.specs.Decode.{propertyStrings, objectStrings};
-ghost use Rattle.reader.specs.StringObjectStages.{chosenReplyOf, chosenProperty, stringProperty};
-ghost use Rattle.reader.specs.Opening.{Opens};
+ghost use Rattle.reader.specs.Stages.StringObjects.{chosenReplyOf, chosenProperty, stringProperty};
+ghost use Rattle.reader.specs.Stages.Opening.{Opens};
 ghost use Rattle.reader.specs.Queries.{objectRecord};
-ghost use Rattle.reader.specs.SaveobjStages.{DecodesStrings};
+ghost use Rattle.reader.specs.Replies.{DecodesStrings};
 
 // The property that leads to a string object's cell: the one named any, else the first. An object without properties has none.
 pub(crate) enum ChosenReply {

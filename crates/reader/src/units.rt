@@ -6,7 +6,8 @@ ghost use lib.ListN.{length};
 ghost use Rattle.text.specs.Buffer.{Puts};
 ghost use Rattle.text.specs.Unicode.{isHighSurrogate, isLowSurrogate, isSurrogate, utf8};
 ghost use Rattle.text.specs.Utf16.{pairValue, theText};
-ghost use Rattle.reader.specs.Units.{unitAt, unitsIn, isPacked, UnitsFit, TwoFit, ThreeFit, PairFits};
+ghost use Rattle.reader.specs.Units.{unitAt, unitsIn};
+ghost use Rattle.reader.specs.Stages.Units.{isPacked, UnitsFit, TwoFit, ThreeFit, PairFits};
 
 // Unit k of the words from index first on.
 pub(crate) fn unit_at(words: &[u64], first: usize, k: usize) -> u16

@@ -18,7 +18,7 @@ use Rattle.writer.specs.Array.{Array, payload, payloads, payloadSpans, arrayOf,
 use Rattle.writer.specs.FileWrapper.{fileWrapper, buildMetadata}
 use Rattle.writer.specs.Replies.{EncodesPayload, BuildsMetadata}
 use Rattle.writer.specs.Spans.{spansFrom}
-use Rattle.writer.specs.Stages.{arrayIn}
+use Rattle.writer.specs.Stages.Payload.{arrayIn}
 use Rattle.writer.proofs.FileWrapperLaws.{length-file-wrapper, builds}
 use Rattle.writer.proofs.LayoutLaws.{spans-append}
 use Rattle.store.specs.Store.{Store, storeOf, serialize, counted, storedArrays}

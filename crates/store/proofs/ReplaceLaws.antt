@@ -12,7 +12,7 @@ use Rattle.text.proofs.BufferLaws.{kept-over}
 use Rattle.writer.specs.Array.{Array, noArray, payload, payloads, payloadSpans}
 use Rattle.writer.specs.FileWrapper.{fileWrapper}
 use Rattle.writer.specs.Spans.{offsetAt, lengthAt}
-use Rattle.writer.specs.Stages.{arrayIn}
+use Rattle.writer.specs.Stages.Payload.{arrayIn}
 use Rattle.writer.proofs.FileWrapperLaws.{length-file-wrapper}
 use Rattle.writer.proofs.LayoutLaws.{span-offset, span-end, payloads-within}
 use Rattle.store.specs.Store.{Store, storeOf, serialize, counted, storedArrays}

@@ -23,7 +23,7 @@ use Rattle.text.proofs.TestLaws.{and-is}
 use Rattle.writer.specs.Array.{Array, payload}
 use Rattle.writer.specs.Replies.{measuredPayload}
 use Rattle.writer.specs.Spans.{lengthAt}
-use Rattle.writer.specs.Stages.{arrayIn}
+use Rattle.writer.specs.Stages.Payload.{arrayIn}
 use Rattle.writer.proofs.ArrayLaws.{array-passed}
 use Rattle.writer.proofs.FileWrapperLaws.{length-file-wrapper}
 use Rattle.writer.proofs.string_object.Payload.{measured-passed, measured-failed}

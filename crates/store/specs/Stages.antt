@@ -13,7 +13,7 @@ use Rattle.text.specs.declared.reply.LengthReply.{LengthReply}
 use Rattle.text.specs.declared.reply.LengthReply.the-variants as length-reply
 use Rattle.writer.specs.Array.{payload, arrayOf}
 use Rattle.writer.specs.Spans.{offsetAt, lengthAt, endAt, stringAt}
-use Rattle.writer.specs.Stages.{arrayIn}
+use Rattle.writer.specs.Stages.Payload.{arrayIn}
 use Rattle.reader.specs.Saveobj.{isCanonicalPayload}
 use Rattle.store.specs.Store.{Store, Lengths, storeOf, serialize, counted, storedArrays}
 use Rattle.store.specs.Moves.{spliced, Shiftable}

@@ -5,7 +5,7 @@ ghost use mathlib.Core.Path.{_≡_};
 ghost use lib.ListN.{length};
 ghost use Rattle.text.specs.Buffer.{put};
 ghost use Rattle.writer.specs.Array.{payload};
-ghost use Rattle.writer.specs.Stages.{arrayIn};
+ghost use Rattle.writer.specs.Stages.Payload.{arrayIn};
 ghost use Rattle.store.specs.Stages.{ArrayFits};
 
 // What an edit answers.

@@ -10,7 +10,7 @@ use borrow.Author.Tests.{le-leb, eqb-true, ne-eqb}
 use lib.Dec.{eqb}
 use lib.ListN.{length, getD, length-append}
 use Rattle.text.specs.Latin9.{Exception, exceptions, pointIn, codePoint, byteFrom, byteOf, bytesFrom, latin9Bytes, exportLatin9, latin9Text, importLatin9}
-use Rattle.text.specs.Latin9Stages.{IsTable}
+use Rattle.text.specs.Stages.Latin9.{IsTable}
 use Rattle.text.specs.Result.{Result, ok, orError, mapResult, checkOutput, _>>_, _>>=_}
 use Rattle.text.specs.Replies.{lengthReplyOf}
 use Rattle.text.specs.Unicode.{Below, utf8, utf8s}

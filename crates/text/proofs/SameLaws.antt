@@ -13,7 +13,7 @@ use Rattle.text.specs.declared.utf8.Step.{Step}
 use Rattle.text.specs.declared.utf8.Step.the-variants.{Scalar, IllFormed, End}
 use Rattle.text.specs.Buffer.{same}
 use Rattle.text.specs.Unicode.{isScalar, utf8, utf8s, encoded}
-use Rattle.text.specs.Stages.{stepHas}
+use Rattle.text.specs.Stages.Utf8.{stepHas}
 use Rattle.text.specs.Utf8.{stepAt, partsFrom, repaired, lossy}
 use Rattle.text.proofs.utf8.Lossy.{Writes, splits, writes-scalar, writes-replacement, nothing-left, replacement-size}
 use Rattle.text.proofs.PartLaws.{step-reads}

@@ -1,7 +1,6 @@
 pub mod Buffer
 pub mod Errors
 pub mod Latin9
-pub mod Latin9Stages
 pub mod Product
 pub mod Replies
 pub mod Result

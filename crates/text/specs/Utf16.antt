@@ -1,12 +1,10 @@
 -- UTF-16 text: its scalar values, the same text in UTF-8, and what decoding it comes to.
 -- Assumes nothing.
-use Prim.Native.Nat.{ℕ, _+_, _-_, _*_, _≤_}
-use mathlib.Core.Path.{_≡_}
+use Prim.Native.Nat.{ℕ, _+_, _-_, _*_}
 use mathlib.Core.Bool.{Bool, cond, _&&_}
 use mathlib.Core.List.{List, [], _∷_}
 use mathlib.Core.Option.{Option, some, none, Option·map, Option·getD}
-use lib.Dec.{ltb}
-use lib.ListN.{length, getD}
+use lib.ListN.{length}
 use Rattle.text.specs.Result.{Result, ok, orError, checkOutput, _>>_, _>>=_}
 use Rattle.text.specs.Unicode.{isHighSurrogate, isLowSurrogate, isSurrogate, utf8s}
 use Rattle.text.specs.declared.utf16.UnitStep.{UnitStep}
@@ -22,10 +20,6 @@ unitStep first second more =
     cond (isSurrogate first)
     (cond (isHighSurrogate first && (more && isLowSurrogate second)) (Scalar (pairValue first second) 2) Unpaired)
     (Scalar first 1)
-
--- the same at index i of a text
-abbrev pub unitStepAt : List ℕ → ℕ → UnitStep
-unitStepAt us i = unitStep (getD us i 0) (getD us (i + 1) 0) (ltb (i + 1) (length us))
 
 -- the scalar values of code units, none where a surrogate has no partner
 unfoldable pub scalars16 : List ℕ → Option (List ℕ)
@@ -43,11 +37,6 @@ textOf us = Option·map utf8s (scalars16 us)
 -- the text where there is one
 abbrev pub theText : List ℕ → List ℕ
 theText us = Option·getD (textOf us) []
-
--- code units have a text, and it fits a buffer
-pub record TextFits (us out : List ℕ) : Type 0 where
-  pub is-text : textOf us ≡ some (theText us)
-  pub fits : length (theText us) ≤ length out
 
 -- `decode_utf16`: "29 with place 0, then 34", for an output of `room` bytes
 unfoldable pub decodeUtf16 : List ℕ → ℕ → Result (List ℕ)

@@ -13,7 +13,7 @@ ghost use lib.Dec.{eqb};
 ghost use lib.ListN.{length};
 ghost use Rattle.text.specs.Buffer.{put};
 ghost use Rattle.text.specs.Latin9.{codePoint, byteOf, latin9Bytes, exportLatin9, latin9Text, importLatin9};
-ghost use Rattle.text.specs.Latin9Stages.{IsTable, byteReplyOf, sizeBy, Stands, BytesFit};
+ghost use Rattle.text.specs.Stages.Latin9.{IsTable, byteReplyOf, sizeBy, Stands, BytesFit};
 ghost use Rattle.text.specs.Replies.{lengthReplyOf, Writes};
 ghost use Rattle.text.specs.Result.{mapResult, valuesOf};
 ghost use Rattle.text.specs.Unicode.{utf8};

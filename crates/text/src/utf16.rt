@@ -10,7 +10,8 @@ ghost use Prim.Native.Nat.{_<_};
 ghost use lib.ListN.{length, getD};
 ghost use Rattle.text.specs.Buffer.{put};
 ghost use Rattle.text.specs.Replies.{lengthOf, DecodesUtf16};
-ghost use Rattle.text.specs.Utf16.{unitStep, unitStepAt, textOf, theText, TextFits};
+ghost use Rattle.text.specs.Utf16.{unitStep, textOf, theText};
+ghost use Rattle.text.specs.Stages.Utf16.{unitStepAt, TextFits};
 
 // What decoding finds: a scalar value and how many units it took, or a surrogate that has no partner.
 pub enum UnitStep {

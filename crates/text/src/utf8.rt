@@ -7,7 +7,7 @@ ghost use lib.Dec.{leb, eqb};
 ghost use lib.ListN.{length, getD};
 ghost use Rattle.text.specs.Buffer.{same, put, Puts, Places};
 ghost use Rattle.text.specs.Replies.{validityPlace, CountsUnits, terminatedLength, lengthOf, lossyLength, WritesLossy};
-ghost use Rattle.text.specs.Stages.{stepHas, hasSecond, wholeLength, isText};
+ghost use Rattle.text.specs.Stages.Utf8.{stepHas, hasSecond, wholeLength, isText};
 ghost use Rattle.text.specs.Unicode.{Below, isScalar, utf8, encoded};
 ghost use Rattle.text.specs.Utf8.{sequenceLength, secondRange, hasIn, stepAt, partsFrom, scalarsOf, firstIllFormed, lossy};
 

@@ -14,7 +14,7 @@ use Rattle.text.specs.Utf8.{unitsOf}
 use Rattle.text.proofs.ResultLaws.{check-passed, seq-passed, bind-passed, foldRange-step}
 use Rattle.writer.specs.Array.{Array, stringUnits, stringWords, payload, isShape, checkShape, arrayOf}
 use Rattle.writer.specs.Spans.{endAt, stringAt, stringsIn, checkString, checkStrings}
-use Rattle.writer.specs.Stages.{arrayIn}
+use Rattle.writer.specs.Stages.Payload.{arrayIn}
 use Rattle.writer.proofs.SpanLaws.{Passed, string-passed}
 use Rattle.writer.proofs.StringWordLaws.{length-strings}
 

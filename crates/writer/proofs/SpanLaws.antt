@@ -22,7 +22,7 @@ use Rattle.text.proofs.TestLaws.{not-both}
 use Rattle.text.proofs.Utf8Laws.{map-is, not-some, spelled}
 use Rattle.writer.specs.Array.{stringUnits, allUnits}
 use Rattle.writer.specs.Spans.{offsetAt, lengthAt, endAt, stringAt, stringsFrom, isSome, checkString}
-use Rattle.writer.specs.Stages.{MeasuresString}
+use Rattle.writer.specs.Stages.Payload.{MeasuresString}
 use Rattle.writer.specs.declared.checks.StringMeasure.the-variants as string
 
 -- ---- a value that is there

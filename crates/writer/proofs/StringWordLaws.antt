@@ -12,9 +12,9 @@ use Rattle.text.proofs.ScalarLaws.{below-append}
 use Rattle.text.proofs.Utf16Laws.{units-below}
 use Rattle.writer.specs.Array.{stringUnits, unitCounts, allUnits, stringWords}
 use Rattle.writer.specs.declared.packing.Carry.{Carry}
-use Rattle.writer.specs.Packing.{Packer, padding, Pushed, Packable}
+use Rattle.writer.specs.Stages.Packing.{Packer, padding, Pushed, Packable}
 use Rattle.writer.specs.Spans.{offsetAt, lengthAt, stringAt, stringsFrom, stringsIn}
-use Rattle.writer.specs.Stages.{StringsFit, StringFits}
+use Rattle.writer.specs.Stages.Payload.{StringsFit, StringFits}
 use Rattle.writer.specs.Words.{packed}
 use Rattle.writer.proofs.packing.Laws.{pushed-none, pushed-count, pushed-length, pushed-then, pushed-set, packs-all}
 use Rattle.writer.proofs.WordLaws.{length-packed}

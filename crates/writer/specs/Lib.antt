@@ -1,7 +1,6 @@
 pub mod Array
 pub mod FileWrapper
 pub mod Metadata
-pub mod Packing
 pub mod Replies
 pub mod Spans
 pub mod Stages

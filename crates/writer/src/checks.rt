@@ -8,7 +8,7 @@ ghost use mathlib.Core.Path.{_≡_};
 ghost use Prim.Native.Nat.{_+_, _*_, _≤_, _<_};
 ghost use lib.ListN.{length};
 ghost use Rattle.writer.specs.Array.{isShape};
-ghost use Rattle.writer.specs.Stages.{MeasuresString, textMeasureOf, measuredStrings};
+ghost use Rattle.writer.specs.Stages.Payload.{MeasuresString, textMeasureOf, measuredStrings};
 
 // What measuring a string came to: the end of its span and its code units, or that check 30 does not hold of it.
 pub(crate) enum StringMeasure {

@@ -6,7 +6,7 @@ ghost use Prim.Native.Nat.{_+_, _*_, _≤_, _<_};
 ghost use lib.ListN.{length};
 ghost use Rattle.text.specs.Buffer.{same};
 ghost use Rattle.writer.specs.FileWrapper.{u32Bytes, u32s, entry, entriesFrom, fileWrapper};
-ghost use Rattle.writer.specs.Stages.{Has, fileHead};
+ghost use Rattle.writer.specs.Stages.Compare.{Has, fileHead};
 
 fn wide(x: u8) -> u32
     ensures { λ r. ⌜ (r ≡ x) × (r < 256) ⌝ }

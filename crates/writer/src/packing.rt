@@ -11,9 +11,9 @@ ghost use Rattle.text.specs.Unicode.{isScalar, utf16};
 ghost use Rattle.text.specs.Utf8.{stepAt};
 ghost use Rattle.text.specs.declared.utf8.Step.the-variants.{Scalar};
 ghost use Rattle.writer.specs.Array.{stringUnits, stringWords};
-ghost use Rattle.writer.specs.Packing.{padding, Pushed, Packable, PackableFrom, SequenceAt, PushedAscii};
+ghost use Rattle.writer.specs.Stages.Packing.{padding, Pushed, Packable, PackableFrom, SequenceAt, PushedAscii};
 ghost use Rattle.writer.specs.Spans.{stringAt, stringsIn};
-ghost use Rattle.writer.specs.Stages.{StringsFit, StringFits};
+ghost use Rattle.writer.specs.Stages.Payload.{StringsFit, StringFits};
 
 // What is carried from one pushed unit to the next: the last four units, the last one highest, and how many were pushed.
 pub(crate) struct Carry {

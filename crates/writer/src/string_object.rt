@@ -17,7 +17,7 @@ ghost use Rattle.writer.specs.Array.{payload};
 ghost use Rattle.writer.specs.FileWrapper.{isFileWrapper};
 ghost use Rattle.writer.specs.Metadata.{objectMetadata};
 ghost use Rattle.writer.specs.Replies.{measuredPayload, EncodesPayload, BuildsMetadata};
-ghost use Rattle.writer.specs.Stages.{arrayIn, PayloadFits};
+ghost use Rattle.writer.specs.Stages.Payload.{arrayIn, PayloadFits};
 
 // The first word of opaque metadata.
 pub const MCOS_MAGIC_NUMBER: u32 = 0xDD00_0000;

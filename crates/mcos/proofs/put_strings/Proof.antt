@@ -1,7 +1,7 @@
 -- `mcos::put_strings` meets its contract.
 -- Assumes nothing.
 use borrow.Author.Needs.{needs}
-use Rattle.reader.specs.SaveobjStages.{stringsReplyOf}
+use Rattle.reader.specs.Replies.{stringsReplyOf}
 use Rattle.mcos.proofs.ExportLaws.{refused}
 use Rattle.mcos.proofs.put_strings.Statement.{statement}
 use Rattle.mcos.proofs.put_strings.Tie as tie

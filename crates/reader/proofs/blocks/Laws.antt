@@ -12,8 +12,8 @@ use lib.ListN.{length}
 use Rattle.text.specs.Result.{Result, ok, error, check}
 use Rattle.text.proofs.TestLaws.{either}
 use Rattle.text.proofs.ResultLaws.{check-passed}
-use Rattle.reader.specs.Blocks.{blockEnd, nextBlock, blockAt, blocksCount, blocksFrom, blocks, HasBlock, IsRegion}
-use Rattle.reader.specs.Replies.{blockCountOf}
+use Rattle.reader.specs.Blocks.{blockEnd, nextBlock, blockAt, blocksCount, blocksFrom, blocks}
+use Rattle.reader.specs.Stages.Blocks.{HasBlock, IsRegion, blockCountOf}
 use Rattle.reader.specs.declared.blocks.BlockCount.the-variants as count
 
 module _ (size : ℕ) (b : List ℕ) where

@@ -17,7 +17,7 @@ use Rattle.text.proofs.ResultLaws.{Checks, checks-start, checks-turn, checks-st
 use Rattle.text.proofs.TestLaws.{and-is, either}
 use Rattle.writer.specs.Spans.{offsetAt, lengthAt, endAt}
 use Rattle.reader.specs.Cells.{endBefore, liesIn, isCell, cellCount, checkDirectory, cellAt, cellOf}
-use Rattle.reader.specs.CellStages.{IsDirectory, cellReplyOf, ReadsCell}
+use Rattle.reader.specs.Stages.Cells.{IsDirectory, cellReplyOf, ReadsCell}
 use Rattle.reader.specs.declared.cells.CellReply.{CellReply}
 use Rattle.reader.specs.declared.cells.CellReply.the-variants as reply
 

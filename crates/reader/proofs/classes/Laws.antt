@@ -24,10 +24,12 @@ use Rattle.text.proofs.ByteLaws.{stores}
 use Rattle.text.proofs.utf8.Lossy.{length-is, too-long-is}
 use Rattle.text.proofs.ResultLaws.{reply-is, check-passed, check-is}
 use Rattle.text.proofs.Utf8Laws.{lossy-le}
-use Rattle.reader.specs.Names.{pieceBytes, HasName, IsName, InBlob, IsLength, BothInBlob}
-use Rattle.reader.specs.Opening.{opened, Opens}
+use Rattle.reader.specs.Stages.Names.{pieceBytes, HasName, IsName, InBlob, IsLength, BothInBlob}
+use Rattle.reader.specs.Opening.{opened}
+use Rattle.reader.specs.Stages.Opening.{Opens}
 use Rattle.reader.specs.Queries.{shown, classEntry, shownClass, checkNames, entryText, entryOf, classOf, classText, objectRecord, checkObject, objectClassText}
-use Rattle.reader.specs.Replies.{parseReplyOf, classReplyOf, WritesText}
+use Rattle.reader.specs.Replies.{parseReplyOf, WritesText}
+use Rattle.reader.specs.Stages.Classes.{classReplyOf}
 use Rattle.reader.specs.declared.classes.ClassReply.{ClassReply}
 use Rattle.reader.specs.declared.classes.ClassReply.the-variants as class
 use Rattle.reader.specs.declared.file_wrapper.FileWrapper.{FileWrapper}

@@ -19,9 +19,9 @@ use Rattle.text.proofs.ResultLaws.{reply-is}
 use Rattle.text.proofs.SameLaws.{same-not}
 use Rattle.text.proofs.TestLaws.{not-both}
 use Rattle.reader.specs.Decode.{stringName, checkString, stringClass}
-use Rattle.reader.specs.Names.{IsName}
+use Rattle.reader.specs.Stages.Names.{IsName}
 use Rattle.reader.specs.Queries.{checkNames, entryText, entryOf, classOf}
-use Rattle.reader.specs.Replies.{classReplyOf}
+use Rattle.reader.specs.Stages.Classes.{classReplyOf}
 use Rattle.reader.specs.declared.classes.ClassReply.{ClassReply}
 use Rattle.reader.specs.declared.classes.ClassReply.the-variants as class
 use Rattle.reader.specs.declared.file_wrapper.FileWrapper.{FileWrapper}

@@ -10,7 +10,8 @@ use Rattle.text.specs.Result.{Result, ok, error, mapResult, _>>=_, valuesOf}
 use Rattle.text.proofs.BufferLaws.{put-more, length-put}
 use Rattle.writer.specs.Spans.{joined, spansFrom}
 use Rattle.writer.proofs.LayoutLaws.{joined-append, length-joined, spans-append, length-spans}
-use Rattle.reader.specs.SaveobjStages.{Counts, countsOf, FitsAt, WritesAt}
+use Rattle.reader.specs.Replies.{Counts, countsOf}
+use Rattle.reader.specs.Stages.Saveobj.{FitsAt, WritesAt}
 use Rattle.reader.specs.declared.saveobj.Position.{Position}
 use Rattle.reader.proofs.saveobj.Payload.{counts-are}
 

@@ -15,15 +15,15 @@ use Rattle.text.proofs.BufferLaws.{put-none}
 use Rattle.text.proofs.ResultLaws.{reply-is, bind-passed}
 use Rattle.writer.specs.Spans.{joined, spansFrom}
 use Rattle.writer.proofs.LayoutLaws.{length-joined}
-use Rattle.reader.specs.CellStages.{ReadsCell}
+use Rattle.reader.specs.Stages.Cells.{ReadsCell}
 use Rattle.reader.specs.Cells.{checkDirectory, cellOf}
 use Rattle.reader.specs.Decode.{idStrings, idsStrings, metadataStrings}
-use Rattle.reader.specs.DecodeStages.{IdFits, IdsThere, IdsFit}
+use Rattle.reader.specs.Stages.Decode.{IdFits, IdsThere, IdsFit}
 use Rattle.reader.specs.Opaque.{opaqueMetadata, opaqueReplyOf}
 use Rattle.reader.specs.Opening.{opened}
-use Rattle.reader.specs.Replies.{parseReplyOf}
+use Rattle.reader.specs.Replies.{parseReplyOf, Counts, countsOf, stringsReplyOf, DecodesStrings}
 use Rattle.reader.specs.Saveobj.{decodePayload, checkOutputs}
-use Rattle.reader.specs.SaveobjStages.{Counts, countsOf, stringsReplyOf, origin, FitsAt, WritesAt, DecodesStrings}
+use Rattle.reader.specs.Stages.Saveobj.{origin, FitsAt, WritesAt}
 use Rattle.reader.specs.declared.cells.CellReply.{CellReply}
 use Rattle.reader.specs.declared.cells.CellReply.the-variants as cell
 use Rattle.reader.specs.declared.file_wrapper.FileWrapper.{FileWrapper}

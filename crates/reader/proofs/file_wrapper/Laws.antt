@@ -14,10 +14,12 @@ use Rattle.text.specs.declared.error.MatError.the-variants.{BlobTooLong, BlobTo
 use Rattle.text.specs.declared.reply.Checked.{Checked}
 use Rattle.text.specs.declared.reply.Checked.the-variants as checked
 use Rattle.text.proofs.ResultLaws.{reply-is, checkEach-passed, Checks, checks-start, checks-turn, checks-stop, checks-last}
-use Rattle.reader.specs.Blocks.{blocks, IsRegion}
+use Rattle.reader.specs.Blocks.{blocks}
+use Rattle.reader.specs.Stages.Blocks.{IsRegion, blockCountOf}
 use Rattle.reader.specs.Names.{pieces}
-use Rattle.reader.specs.Opening.{declaredNames, offset, offsets, isWithin, isOrdered, pieceCount, regions, layout, emptyWrapper, opened, Ordered}
-use Rattle.reader.specs.Replies.{parseReplyOf, blockCountOf}
+use Rattle.reader.specs.Opening.{declaredNames, offset, offsets, isWithin, isOrdered, pieceCount, regions, layout, emptyWrapper, opened}
+use Rattle.reader.specs.Stages.Opening.{Ordered}
+use Rattle.reader.specs.Replies.{parseReplyOf}
 use Rattle.reader.specs.declared.blocks.BlockCount.{BlockCount}
 use Rattle.reader.specs.declared.blocks.BlockCount.the-variants as count
 use Rattle.reader.specs.declared.file_wrapper.FileWrapper.{FileWrapper}

@@ -17,9 +17,11 @@ use Rattle.text.specs.declared.error.Failure.{Failure}
 use Rattle.text.specs.declared.error.MatError.{MatError}
 use Rattle.text.proofs.ResultLaws.{reply-is, check-passed, seq-passed}
 use Rattle.text.proofs.TestLaws.{either, equal-or, not-both}
-use Rattle.reader.specs.Names.{heapPieces, nameBytes, FirstPiece, Standing}
+use Rattle.reader.specs.Stages.Names.{heapPieces, FirstPiece, Standing}
+use Rattle.reader.specs.Names.{nameBytes}
 use Rattle.reader.specs.Objects.{triplesFrom, checkTriple, checkTriples, recordTriples, objectTriples, position, isNamed, findProperty}
-use Rattle.reader.specs.ObjectStages.{TriplesIn, PassedTriples, triplesReplyOf, ReadsTriples, firstIndex, firstOf, isIn, flagged, shownIn, ToNames, Looks, Marks, Advances}
+use Rattle.reader.specs.Stages.Properties.{TriplesIn, PassedTriples, triplesReplyOf, ReadsTriples}
+use Rattle.reader.specs.Stages.Find.{firstIndex, firstOf, isIn, flagged, shownIn, ToNames, Looks, Marks, Advances}
 use Rattle.reader.specs.Opening.{opened}
 use Rattle.reader.specs.Queries.{shown, checkObject, objectRecord}
 use Rattle.reader.specs.Replies.{findReplyOf}

@@ -24,7 +24,8 @@ use Rattle.text.proofs.utf8.Terminated.{terminated-is, terminated-not}
 use Rattle.text.proofs.TestLaws.{either}
 use Rattle.text.proofs.Utf8Laws.{lossy-same, scalars8-empty}
 use Rattle.reader.specs.Labels.{placeholderPart, ownBytes, namePart, checkWellFormed, labelOf, labelReplyOf, bufferOf, IsPart, IsLabel}
-use Rattle.reader.specs.Names.{pieces, heapOf, nameBytes, lengthWithZeros, nameStart, HasName, Starts}
+use Rattle.reader.specs.Names.{pieces, heapOf, nameBytes, lengthWithZeros, nameStart}
+use Rattle.reader.specs.Stages.Names.{HasName, Starts}
 use Rattle.reader.specs.Opening.{opened}
 use Rattle.reader.specs.Queries.{nameText}
 use Rattle.reader.specs.Replies.{parseReplyOf}

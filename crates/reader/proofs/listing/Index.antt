@@ -11,10 +11,11 @@ use lib.ListN.{length, getD, set, length-set}
 use lib.Seq.{getD-set-same, getD-set-other}
 use Rattle.text.specs.declared.error.MatError.{MatError}
 use Rattle.text.proofs.TestLaws.{either}
-use Rattle.reader.specs.Blocks.{blockEnd, blockAt, HasBlock}
-use Rattle.reader.specs.ListingStages.{PlanFor, IsPlan, firstEntry, entry, IsEntry, Fills, Indexes, IsCursor, cursorAt, cursorFrom, cursorOf, withCursor, firstCursors, AreCursors, Nears, Nearest, ToBlock, IsListing, HasIndex}
+use Rattle.reader.specs.Blocks.{blockEnd, blockAt}
+use Rattle.reader.specs.Stages.Blocks.{HasBlock}
+use Rattle.reader.specs.Stages.Listing.{PlanFor, IsPlan, firstEntry, entry, IsEntry, Fills, Indexes, IsCursor, cursorAt, cursorFrom, cursorOf, withCursor, firstCursors, AreCursors, Nears, Nearest, ToBlock, IsListing, HasIndex}
 use Rattle.reader.specs.Objects.{regionStart, regionBlocks}
-use Rattle.reader.specs.Opening.{Opens}
+use Rattle.reader.specs.Stages.Opening.{Opens}
 use Rattle.reader.specs.declared.file_wrapper.FileWrapper.{FileWrapper}
 use Rattle.reader.specs.declared.listing.Cursor.{Cursor}
 use Rattle.reader.specs.declared.listing.Cursors.{Cursors}

@@ -22,10 +22,11 @@ use Rattle.text.specs.declared.reply.LengthReply.the-variants as reply
 use Rattle.text.proofs.ResultLaws.{reply-is, seq-passed, seq-failed, bind-passed}
 use Rattle.text.proofs.TestLaws.{either}
 use Rattle.reader.specs.Blocks.{blockEnd, blockAt}
-use Rattle.reader.specs.ListingStages.{checkObjects, objectsCheckOf, allObjects, PlanFor, Indexes, cursorAt, withCursor, firstCursors, AreCursors, ToBlock, listingReplyOf, countOf, Listable, IsListing, Lists, HasIndex, Starts, ToNext, NextObject}
+use Rattle.reader.specs.Stages.Listing.{checkObjects, objectsCheckOf, allObjects, PlanFor, Indexes, cursorAt, withCursor, firstCursors, AreCursors, ToBlock, listingReplyOf, countOf, Listable, IsListing, Lists, HasIndex, Starts, ToNext, NextObject}
 use Rattle.reader.specs.Objects.{regionStart, regionBlocks, checkBlock, objectRow, recordRow, objectOf, objectsFrom, objectRows, noRow, blankRows}
-use Rattle.reader.specs.ObjectStages.{blockOf, rowFrom}
-use Rattle.reader.specs.Opening.{opened, Opens}
+use Rattle.reader.specs.Stages.Objects.{blockOf, rowFrom}
+use Rattle.reader.specs.Opening.{opened}
+use Rattle.reader.specs.Stages.Opening.{Opens}
 use Rattle.reader.specs.Queries.{objectRecord, intoOutput}
 use Rattle.reader.specs.Replies.{parseReplyOf, WritesObjects}
 use Rattle.reader.specs.Wire.{u32At}

@@ -13,7 +13,8 @@ use Rattle.text.specs.Utf8.{beforeZero}
 use Rattle.text.proofs.BufferLaws.{slice-more}
 use Rattle.text.proofs.utf8.Terminated.{before-none, before-zero, before-more}
 use Rattle.text.proofs.TestLaws.{either}
-use Rattle.reader.specs.Names.{onto, pieces, piecesFrom, heapOf, nameBytes, lengthWithZeros, nameStart, heapPieces, zeros, Counted, Skips, HasPiece, Starts, FirstPiece, Standing, HasName, IsName}
+use Rattle.reader.specs.Names.{onto, pieces, heapOf, nameBytes, lengthWithZeros, nameStart}
+use Rattle.reader.specs.Stages.Names.{piecesFrom, heapPieces, zeros, Counted, Skips, HasPiece, Starts, FirstPiece, Standing, HasName, IsName}
 use Rattle.reader.specs.declared.names.Skipped.{Skipped}
 
 length-onto : (x : ℕ) (ps : List (List ℕ)) → 1 ≤ length ps → length (onto x ps) ≡ length ps

@@ -16,10 +16,11 @@ use Rattle.text.specs.declared.reply.Checked.{Checked}
 use Rattle.text.specs.declared.reply.Checked.the-variants as checked
 use Rattle.text.proofs.ResultLaws.{reply-is, check-passed, check-is}
 use Rattle.text.proofs.TestLaws.{either}
-use Rattle.reader.specs.Blocks.{blockEnd, blockAt, HasBlock}
+use Rattle.reader.specs.Blocks.{blockEnd, blockAt}
+use Rattle.reader.specs.Stages.Blocks.{HasBlock}
 use Rattle.reader.specs.Objects.{regionOf, blockIdOf, regionStart, regionBlocks, checkBlock, blockStart, propertyCount, objectRow, recordRow}
-use Rattle.reader.specs.ObjectStages.{blockOf, rowFrom, ReadsObject}
-use Rattle.reader.specs.Opening.{Opens}
+use Rattle.reader.specs.Stages.Objects.{blockOf, rowFrom, ReadsObject}
+use Rattle.reader.specs.Stages.Opening.{Opens}
 use Rattle.reader.specs.Queries.{checkObject, objectRecord}
 use Rattle.reader.specs.Wire.{u32At}
 use Rattle.reader.specs.declared.file_wrapper.FileWrapper.{FileWrapper}

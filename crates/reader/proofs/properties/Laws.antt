@@ -21,8 +21,10 @@ use Rattle.text.proofs.BufferLaws.{length-over}
 use Rattle.text.proofs.ResultLaws.{reply-is, seq-passed, seq-failed}
 use Rattle.text.proofs.TestLaws.{either}
 use Rattle.reader.specs.Objects.{checkBlock, objectRow, triplesFrom, triplesOf, checkTriple, checkTriples, recordRow, recordTriples, objectTriples, rowOf}
-use Rattle.reader.specs.ObjectStages.{objectReplyOf, IsBlock, Stands, ReadsObject, TriplesIn, triplesReplyOf, PassedTriples, Triples, RecordTriples, ReadsTriples}
-use Rattle.reader.specs.Opening.{opened, Opens}
+use Rattle.reader.specs.Stages.Objects.{objectReplyOf, IsBlock, Stands, ReadsObject}
+use Rattle.reader.specs.Stages.Properties.{TriplesIn, triplesReplyOf, PassedTriples, Triples, RecordTriples, ReadsTriples}
+use Rattle.reader.specs.Opening.{opened}
+use Rattle.reader.specs.Stages.Opening.{Opens}
 use Rattle.reader.specs.Queries.{intoOutput, objectRecord, checkObject}
 use Rattle.reader.specs.Replies.{parseReplyOf, WritesRows}
 use Rattle.reader.specs.Wire.{tripleAt}

@@ -29,8 +29,10 @@ use Rattle.writer.proofs.ShapeLaws.{shape-is}
 use Rattle.writer.proofs.WordLaws.{length-packed, padded}
 use Rattle.reader.specs.Saveobj.{dimCount, unitCount, unitsBefore, storedUnits, storedStrings, decodePayload, decodedArray, isCanonicalPayload}
 use Rattle.reader.specs.Saveobj as saveobj
-use Rattle.reader.specs.SaveobjStages.{layoutOf, checkLayout, countsOf, stringsReplyOf, UnitsChecked}
-use Rattle.reader.specs.Units.{unitsIn, isPacked}
+use Rattle.reader.specs.Stages.Saveobj.{layoutOf, checkLayout, UnitsChecked}
+use Rattle.reader.specs.Replies.{countsOf, stringsReplyOf}
+use Rattle.reader.specs.Units.{unitsIn}
+use Rattle.reader.specs.Stages.Units.{isPacked}
 use Rattle.reader.specs.declared.saveobj.LayoutReply.{LayoutReply}
 use Rattle.reader.specs.declared.saveobj.LayoutReply.the-variants as layout
 use Rattle.reader.specs.declared.saveobj.StringsReply.{StringsReply}

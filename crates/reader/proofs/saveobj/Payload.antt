@@ -24,7 +24,8 @@ use Rattle.text.proofs.BufferLaws.{put-front}
 use Rattle.text.proofs.ResultLaws.{reply-is, check-passed, seq-passed, bind-passed, checkEach-passed, check-is, Checks, checks-start, checks-turn, checks-stop}
 use Rattle.writer.specs.Spans.{joined, spansFrom}
 use Rattle.reader.specs.Saveobj.{unitsBefore, Header, storedUnits, storedStrings, checkHeader, checkSum, checkLengths, checkStrings, decodePayload, checkOutputs, intoStrings}
-use Rattle.reader.specs.SaveobjStages.{numberOf, headerOf, Layout, layoutOf, checkLayout, Counts, countsOf, stringsReplyOf, UnitsChecked, StringsFit, WritesStrings, origin, FitsAt, WritesAt, DecodesStrings}
+use Rattle.reader.specs.Stages.Saveobj.{numberOf, headerOf, Layout, layoutOf, checkLayout, UnitsChecked, StringsFit, WritesStrings, origin, FitsAt, WritesAt}
+use Rattle.reader.specs.Replies.{Counts, countsOf, stringsReplyOf, DecodesStrings}
 use Rattle.reader.specs.declared.saveobj.HeaderReply.{HeaderReply}
 use Rattle.reader.specs.declared.saveobj.HeaderReply.the-variants as header
 use Rattle.reader.specs.declared.saveobj.LayoutReply.{LayoutReply}

@@ -13,7 +13,8 @@ use lib.ListN.{length, take, set, length-set, length-append}
 use Rattle.text.specs.Buffer.{put, Puts}
 use Rattle.text.specs.Result.{ok, error, mapResult}
 use Rattle.text.specs.Unicode.{isHighSurrogate, isLowSurrogate, isSurrogate, utf8}
-use Rattle.text.specs.Utf16.{pairValue, unitStepAt, textOf, theText}
+use Rattle.text.specs.Utf16.{pairValue, textOf, theText}
+use Rattle.text.specs.Stages.Utf16.{unitStepAt}
 use Rattle.text.specs.declared.utf16.UnitStep.the-variants.{Scalar, Unpaired}
 use Rattle.text.proofs.BufferLaws.{SoFar, Splits, fits-next, goes-on, fits-from, begins-from, ends-from}
 use Rattle.text.proofs.ByteLaws.{stores, size-1, size-2, size-3, size-4}
@@ -25,8 +26,10 @@ use Rattle.writer.specs.Spans.{isSome, joined, spansFrom}
 use Rattle.writer.proofs.LayoutLaws.{joined-cons, length-spans}
 use Rattle.writer.proofs.SpanLaws.{counted-some, counted-none}
 use Rattle.reader.specs.Saveobj.{unitCount, unitsBefore, storedUnits, storedStrings, checkStrings}
-use Rattle.reader.specs.SaveobjStages.{countsOf, UnitsChecked, StringsFit, WritesStrings}
-use Rattle.reader.specs.Units.{unitAt, unitsIn, UnitsInside, UnitsFit}
+use Rattle.reader.specs.Replies.{countsOf}
+use Rattle.reader.specs.Stages.Saveobj.{UnitsChecked, StringsFit, WritesStrings}
+use Rattle.reader.specs.Units.{unitAt, unitsIn}
+use Rattle.reader.specs.Stages.Units.{UnitsInside, UnitsFit}
 use Rattle.reader.proofs.saveobj.Lengths.{units-next, units-most}
 use Rattle.reader.proofs.units.Laws.{length-units, reads-units, step-single, step-last, step-pair, step-unpaired, text-most}
 

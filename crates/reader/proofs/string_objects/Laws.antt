@@ -20,17 +20,18 @@ use Rattle.text.proofs.ByteLaws.{stores}
 use Rattle.text.proofs.ResultLaws.{reply-is}
 use Rattle.text.proofs.TestLaws.{either}
 use Rattle.writer.specs.Spans.{spansFrom}
-use Rattle.reader.specs.CellStages.{IsDirectory, cellReplyOf, ReadsCell}
+use Rattle.reader.specs.Stages.Cells.{IsDirectory, cellReplyOf, ReadsCell}
 use Rattle.reader.specs.Cells.{checkDirectory, cellAt}
 use Rattle.reader.specs.Decode.{anyName, chosenIndex, stringClass, propertyStrings, triplesStrings, objectStrings}
-use Rattle.reader.specs.StringObjectStages.{chosenOf, chosenReplyOf, chosenProperty, stringProperty, chosenStrings}
+use Rattle.reader.specs.Stages.StringObjects.{chosenOf, chosenReplyOf, chosenProperty, stringProperty, chosenStrings}
 use Rattle.reader.specs.Objects.{triplesFrom, recordTriples, isNamed}
-use Rattle.reader.specs.ObjectStages.{PassedTriples, triplesReplyOf, Triples, RecordTriples, firstIndex}
-use Rattle.reader.specs.Opening.{opened, Opens}
+use Rattle.reader.specs.Stages.Properties.{PassedTriples, triplesReplyOf, Triples, RecordTriples}
+use Rattle.reader.specs.Stages.Find.{firstIndex}
+use Rattle.reader.specs.Opening.{opened}
+use Rattle.reader.specs.Stages.Opening.{Opens}
 use Rattle.reader.specs.Queries.{checkObject, objectRecord}
-use Rattle.reader.specs.Replies.{parseReplyOf}
+use Rattle.reader.specs.Replies.{parseReplyOf, countsOf, DecodesStrings}
 use Rattle.reader.specs.Saveobj.{decodePayload, intoStrings}
-use Rattle.reader.specs.SaveobjStages.{countsOf, DecodesStrings}
 use Rattle.reader.specs.Wire.{tripleAt}
 use Rattle.reader.specs.declared.cells.CellReply.{CellReply}
 use Rattle.reader.specs.declared.cells.CellReply.the-variants as cell

@@ -10,14 +10,16 @@ use borrow.Author.Tests.{lt-ltb, le-ltb, ltb-true, eq-eqb, ne-eqb}
 use lib.Dec.{ltb, eqb}
 use lib.ListN.{length, getD, List·getD-eq-default}
 use Rattle.text.specs.Unicode.{Below, isHighSurrogate, isLowSurrogate, isSurrogate, utf8s}
-use Rattle.text.specs.Utf16.{pairValue, unitStep, unitStepAt, scalars16, textOf}
+use Rattle.text.specs.Utf16.{pairValue, unitStep, scalars16, textOf}
+use Rattle.text.specs.Stages.Utf16.{unitStepAt}
 use Rattle.text.specs.declared.utf16.UnitStep.the-variants.{Scalar, Unpaired}
 use Rattle.text.proofs.utf16.Decode.{single-step, alone-step, pair-step, unpaired-step, Reading, reads-start}
 use Rattle.text.proofs.ScalarLaws.{gap-below, bytes-le}
 use Rattle.text.proofs.TestLaws.{and-is}
 use Rattle.text.proofs.Utf8Laws.{map-is}
 use Rattle.text.proofs.Utf16Laws.{spelled16}
-use Rattle.reader.specs.Units.{unitAt, unitsIn, isPacked}
+use Rattle.reader.specs.Units.{unitAt, unitsIn}
+use Rattle.reader.specs.Stages.Units.{isPacked}
 
 pub length-units : (w : List ℕ) (first k n : ℕ) → length (unitsIn w first k n) ≡ n
 unfolding unitsIn

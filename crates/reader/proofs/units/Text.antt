@@ -10,7 +10,8 @@ use borrow.Author.Tests.{not-true, not-false}
 use lib.ListN.{length, getD, take, drop, set, drop-of-length-le}
 use Rattle.text.specs.Buffer.{Puts}
 use Rattle.text.specs.Unicode.{isHighSurrogate, isLowSurrogate, isSurrogate, utf8, utf8s}
-use Rattle.text.specs.Utf16.{pairValue, unitStepAt, scalars16, theText}
+use Rattle.text.specs.Utf16.{pairValue, scalars16, theText}
+use Rattle.text.specs.Stages.Utf16.{unitStepAt}
 use Rattle.text.specs.declared.utf16.UnitStep.the-variants.{Scalar}
 use Rattle.text.proofs.BufferLaws.{SoFar, Splits, fits-next, goes-on, fits-from, begins-from, ends-from}
 use Rattle.text.proofs.ByteLaws.{size-1, size-2, size-3, size-4, writes-1, writes-2, writes-3, writes-4}
@@ -19,7 +20,8 @@ use Rattle.text.proofs.ScalarLaws.{utf8s-nil, utf8s-cons}
 use Rattle.text.proofs.TestLaws.{within-is}
 use Rattle.text.proofs.Utf8Laws.{map-is, not-some}
 use Rattle.text.proofs.Utf16Laws.{scalars16-nil}
-use Rattle.reader.specs.Units.{unitAt, unitsIn, UnitsInside, UnitsFit, TwoFit, ThreeFit, PairFits}
+use Rattle.reader.specs.Units.{unitAt, unitsIn}
+use Rattle.reader.specs.Stages.Units.{UnitsInside, UnitsFit, TwoFit, ThreeFit, PairFits}
 use Rattle.reader.proofs.units.Laws.{length-units, reads-units, unit-of, Pair, pair-by, step-single, step-one}
 
 -- ---- the returns of `put_two`, `put_three` and `put_pair`

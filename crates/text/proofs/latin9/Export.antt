@@ -13,10 +13,10 @@ use lib.ListN.{length, getD, set}
 use Rattle.text.specs.Buffer.{put, Places}
 use Rattle.text.specs.Errors.{failureOf}
 use Rattle.text.specs.Latin9.{codePoint, byteOf, bytesFrom, latin9Bytes, exportLatin9}
-use Rattle.text.specs.Latin9Stages.{byteReplyOf, sizeBy, Stands, BytesFit}
+use Rattle.text.specs.Stages.Latin9.{byteReplyOf, sizeBy, Stands, BytesFit}
 use Rattle.text.specs.Replies.{lengthReplyOf, Writes}
 use Rattle.text.specs.Result.{Result, ok, error, mapResult, orError, valuesOf, _>>=_}
-use Rattle.text.specs.Stages.{wholeLength, isText}
+use Rattle.text.specs.Stages.Utf8.{wholeLength, isText}
 use Rattle.text.specs.Unicode.{utf8}
 use Rattle.text.specs.Utf8.{sequenceLength, matched, valueAt, wholeAt, stepAt, partsFrom, scalarsOf, scalars8}
 use Rattle.text.specs.declared.error.MatError.{MatError}

@@ -16,7 +16,8 @@ use Rattle.text.specs.Buffer.{put}
 use Rattle.text.specs.Replies.{lengthOf, DecodesUtf16}
 use Rattle.text.specs.Result.{ok, error, needPlace}
 use Rattle.text.specs.Unicode.{isHighSurrogate, isLowSurrogate, isSurrogate, utf8, utf8s}
-use Rattle.text.specs.Utf16.{pairValue, unitStep, unitStepAt, scalars16, textOf, theText, TextFits, decodeUtf16}
+use Rattle.text.specs.Utf16.{pairValue, unitStep, scalars16, textOf, theText, decodeUtf16}
+use Rattle.text.specs.Stages.Utf16.{unitStepAt, TextFits}
 use Rattle.text.specs.declared.error.MatError.the-variants.{OutputTooShort, UnpairedSurrogate}
 use Rattle.text.specs.declared.utf8.TextLength.{TextLength}
 use Rattle.text.specs.declared.utf8.TextLength.the-variants as textLength

@@ -14,7 +14,7 @@ use Rattle.text.specs.declared.utf8.UnitCount.{UnitCount}
 use Rattle.text.specs.declared.utf8.UnitCount.the-variants as count
 use Rattle.text.specs.declared.utf8.Validity.the-variants as validity
 use Rattle.text.specs.Replies.{countPlace, validityPlace, CountsUnits}
-use Rattle.text.specs.Stages.{wholeLength}
+use Rattle.text.specs.Stages.Utf8.{wholeLength}
 use Rattle.text.specs.Unicode.{utf16, utf16s}
 use Rattle.text.specs.Utf8.{sequenceLength, matched, valueAt, wholeAt, nextAt, stepAt, partsFrom, scalarsOf, scalars8, firstIllFormed, unitsOf}
 use Rattle.text.proofs.LeadLaws.{ascii}

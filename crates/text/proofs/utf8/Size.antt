@@ -9,7 +9,7 @@ use borrow.Author.Tests.{eqb-true, eqb-false, not-true, not-false}
 use lib.Dec.{eqb}
 use lib.ListN.{length, getD}
 use Rattle.text.specs.declared.utf8.Range.{Range}
-use Rattle.text.specs.Stages.{hasSecond, wholeLength}
+use Rattle.text.specs.Stages.Utf8.{hasSecond, wholeLength}
 use Rattle.text.specs.Utf8.{sequenceLength, secondRange, hasIn, matched, wholeAt}
 use Rattle.text.proofs.LeadLaws.{not-one}
 use Rattle.text.proofs.StepLaws.{length-le}

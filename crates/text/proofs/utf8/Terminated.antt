@@ -10,7 +10,7 @@ use borrow.Author.Tests.{eq-eqb, ne-eqb, eqb-true, eqb-false, lt-ltb, ltb-true, 
 use lib.Dec.{leb, ltb, eqb}
 use lib.ListN.{length, getD}
 use Rattle.text.specs.Replies.{terminatedLength, lengthOf}
-use Rattle.text.specs.Stages.{wholeLength}
+use Rattle.text.specs.Stages.Utf8.{wholeLength}
 use Rattle.text.specs.Utf8.{sequenceLength, secondRange, hasIn, matched, wholeAt, scalars8, beforeZero}
 use Rattle.text.specs.declared.utf8.TextLength.{TextLength}
 use Rattle.text.specs.declared.utf8.TextLength.the-variants as textLength

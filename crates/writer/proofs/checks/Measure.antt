@@ -12,7 +12,7 @@ use Rattle.text.specs.Result.{Result, ok, error, mapResult, check, foldCount, f
 use Rattle.text.proofs.ResultLaws.{reply-is, seq-passed, bind-passed, foldRange-done, foldRange-yes, foldRange-no}
 use Rattle.writer.specs.Array.{stringUnits, allUnits, payload, isShape, checkShape, arrayOf}
 use Rattle.writer.specs.Spans.{stringAt, stringsFrom, stringsIn, checkString, checkStrings}
-use Rattle.writer.specs.Stages.{stringEnd, MeasuresString, measuredStrings, textMeasureOf, arrayIn}
+use Rattle.writer.specs.Stages.Payload.{stringEnd, MeasuresString, measuredStrings, textMeasureOf, arrayIn}
 use Rattle.writer.specs.Replies.{measuredPayload}
 use Rattle.writer.specs.declared.checks.StringMeasure.{StringMeasure}
 use Rattle.writer.specs.declared.checks.StringMeasure.the-variants as string

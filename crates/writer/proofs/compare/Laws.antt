@@ -15,7 +15,7 @@ use Rattle.text.specs.Buffer.{same}
 use Rattle.text.proofs.SameLaws.{same-refl, same-not, same-append}
 use Rattle.text.proofs.TestLaws.{either}
 use Rattle.writer.specs.FileWrapper.{u32Bytes, u32s, nameHeap, classEntries, entry, zeroEntry, entriesFrom, region, regions, offsetsFrom, fileWrapper, isFileWrapper}
-use Rattle.writer.specs.Stages.{standsAt, Has, fileHead}
+use Rattle.writer.specs.Stages.Compare.{standsAt, Has, fileHead}
 use Rattle.writer.specs.declared.file_wrapper.Region.{Region}
 use Rattle.writer.specs.declared.file_wrapper.Region.the-variants.{SavedBlocks, Objects, Dependents}
 use Rattle.writer.proofs.FileWrapperLaws.{length-u32s, entrySize, length-entry, length-entries, offsets-are, file-wrapper-is, length-file-wrapper, sizes}

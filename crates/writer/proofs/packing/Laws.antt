@@ -23,7 +23,7 @@ use Rattle.text.proofs.TestLaws.{cond-both}
 use Rattle.text.proofs.Utf8Laws.{map-is, not-some, step-took}
 use Rattle.writer.specs.Array.{stringUnits}
 use Rattle.writer.specs.declared.packing.Carry.{Carry}
-use Rattle.writer.specs.Packing.{Packer, fresh, push, pushes, padding, Pushed, Packable, PackableFrom, SequenceAt, Ascii, PushedAscii}
+use Rattle.writer.specs.Stages.Packing.{Packer, fresh, push, pushes, padding, Pushed, Packable, PackableFrom, SequenceAt, Ascii, PushedAscii}
 use Rattle.writer.specs.Words.{packed}
 use Rattle.writer.proofs.WordLaws.{length-packed, whole, window, length-whole, window-snoc, whole-keeps, whole-fills, packed-whole, packed-zero}
 

@@ -14,7 +14,7 @@ use Rattle.text.proofs.LeadLaws.{not-one}
 use Rattle.text.proofs.PartLaws.{Reads, step-reads}
 use Rattle.text.proofs.StepLaws.{length-le, value-2, value-3, value-4}
 use Rattle.text.proofs.Utf8Laws.{starts, value-is, next-after}
-use Rattle.writer.specs.Packing.{SequenceAt}
+use Rattle.writer.specs.Stages.Packing.{SequenceAt}
 
 module _ (s : List ℕ) (i : ℕ) (q : SequenceAt s i) where
   reads : Reads s i (q .value) (q .next)

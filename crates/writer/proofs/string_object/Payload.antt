@@ -20,7 +20,7 @@ use Rattle.text.proofs.ReplyLaws.{writes, told-length, told-error}
 use Rattle.writer.specs.Array.{Array, stringWords, payload, arrayOf, encodePayload}
 use Rattle.writer.specs.Replies.{measuredPayload, EncodesPayload}
 use Rattle.writer.specs.Spans.{stringsIn}
-use Rattle.writer.specs.Stages.{arrayIn, PayloadFits, StringsFit}
+use Rattle.writer.specs.Stages.Payload.{arrayIn, PayloadFits, StringsFit}
 use Rattle.writer.proofs.ArrayLaws.{length-payload, array-is, strings-inside, strings-well-formed}
 
 -- ---- writing: version and number of dimensions, dimensions, strings

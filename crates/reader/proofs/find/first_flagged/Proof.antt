@@ -1,7 +1,7 @@
 -- `reader::find::first_flagged` meets its contract.
 -- Assumes nothing.
 use Prim.Native.Nat.{_-_}
-use Rattle.reader.specs.ObjectStages.{flagged}
+use Rattle.reader.specs.Stages.Find.{flagged}
 use Rattle.reader.proofs.find.Laws.{Passing, pass-start, pass-found, pass-turn, pass-last}
 use borrow.Author.Needs.{needs}
 use Rattle.reader.proofs.find.first_flagged.Statement.{statement}

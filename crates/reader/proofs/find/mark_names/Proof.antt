@@ -1,7 +1,7 @@
 -- `reader::find::mark_names` meets its contract.
 -- Assumes nothing.
 use Prim.Native.Nat.{_-_, _≤_}
-use Rattle.reader.specs.ObjectStages.{Marks}
+use Rattle.reader.specs.Stages.Find.{Marks}
 use Rattle.reader.proofs.find.Laws.{marks-start, marks-name, marks-turn, marks-last}
 use borrow.Author.Needs.{needs}
 use Rattle.reader.proofs.find.mark_names.Statement.{statement}

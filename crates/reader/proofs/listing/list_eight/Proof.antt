@@ -48,7 +48,7 @@ use denote.Triple.Spec.{Meets, tripleOf}
 use denote.Triple.Table.{entered, cited}
 use denote.Triple.Walked.{says, Stays, stay-none-slice, walkOf, goes-none-slice, Walks, ends-at, walked, walk-meets}
 use denote.Exit.{yes}
-use Rattle.reader.specs.ListingStages.{objectList}
+use Rattle.reader.specs.Stages.Listing.{objectList}
 use Rattle.reader.specs.Objects.{blankRows}
 use Rattle.reader.specs.Replies.{WritesObjects}
 use Rattle.reader.specs.declared.listing.ObjectList.{ObjectList}

@@ -54,7 +54,7 @@ use denote.Triple.Spec.{Meets, tripleOf}
 use denote.Triple.Table.{entered, cited}
 use denote.Triple.Walked.{says, Stays, stay-none-slice, stay-slice, walkOf, goes-none-slice, goes-slice, Walks, ends-at, walked, walk-meets}
 use denote.Exit.{yes}
-use Rattle.reader.specs.ListingStages.{allObjects, listingReplyOf, countOf, IsListing, Lists, HasIndex, Starts, ToNext, NextObject}
+use Rattle.reader.specs.Stages.Listing.{allObjects, listingReplyOf, countOf, IsListing, Lists, HasIndex, Starts, ToNext, NextObject}
 use Rattle.reader.specs.Objects.{objectRows, noRow}
 use Rattle.reader.specs.Replies.{WritesObjects}
 use Rattle.reader.specs.declared.listing.Listing.{Listing}

@@ -1,7 +1,7 @@
 -- `reader::names::count_pieces` meets its contract.
 -- Assumes nothing.
 use Prim.Native.Nat.{_-_, _≤_}
-use Rattle.reader.specs.Names.{Counted}
+use Rattle.reader.specs.Stages.Names.{Counted}
 use Rattle.reader.proofs.names.Pieces.{count-more, count-last}
 use borrow.Author.Needs.{needs}
 use Rattle.reader.proofs.names.count_pieces.Statement.{statement}

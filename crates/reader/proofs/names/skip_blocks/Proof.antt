@@ -1,7 +1,7 @@
 -- `reader::names::skip_blocks` meets its contract.
 -- Assumes nothing.
 use Prim.Native.Nat.{_-_}
-use Rattle.reader.specs.Names.{Skips}
+use Rattle.reader.specs.Stages.Names.{Skips}
 use Rattle.reader.proofs.names.Pieces.{count-none, count-more}
 use borrow.Author.Needs.{needs}
 use Rattle.reader.proofs.names.skip_blocks.Statement.{statement}

@@ -3,9 +3,9 @@
 use Prim.Native.Nat.{ℕ, _-_, _≤_}
 use mathlib.Core.Path.{_≡_}
 use mathlib.Core.List.{List}
-use lib.ListN.{length, take, drop}
+use lib.ListN.{take, drop, length}
 use Rattle.text.specs.Errors.{failureOf}
-use Rattle.text.specs.Result.{Result, ok, error}
+use Rattle.text.specs.Result.{ok, Result, error}
 use Rattle.reader.specs.Cells.{checkDirectory}
 use Rattle.reader.specs.declared.cells.CellReply.{CellReply}
 use Rattle.reader.specs.declared.cells.CellReply.the-variants as reply

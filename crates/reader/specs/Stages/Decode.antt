@@ -3,9 +3,9 @@
 use Prim.Native.Nat.{ℕ, _+_, _≤_}
 use mathlib.Core.List.{List}
 use lib.ListN.{length}
-use Rattle.reader.specs.CellStages.{IsDirectory}
 use Rattle.reader.specs.Decode.{idStrings, idsStrings}
-use Rattle.reader.specs.SaveobjStages.{origin, FitsAt}
+use Rattle.reader.specs.Stages.Cells.{IsDirectory}
+use Rattle.reader.specs.Stages.Saveobj.{FitsAt, origin}
 use Rattle.reader.specs.declared.saveobj.Position.{Position}
 
 -- an id that was measured

@@ -1,4 +1,4 @@
--- What the private stages of decoding a string object promise each other.
+-- What the stages of decoding a string object promise each other.
 -- Assumes nothing.
 use Prim.Native.Nat.{ℕ}
 use mathlib.Core.List.{List, [], _∷_}

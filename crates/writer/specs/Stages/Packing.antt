@@ -1,14 +1,14 @@
 -- Code units pushed one by one into words: a word is stored when its fourth unit comes.
 -- Assumes nothing.
-use Prim.Native.Nat.{ℕ, _+_, _-_, _*_, _/_, _%_, _≤_, _<_}
+use Prim.Native.Nat.{ℕ, _+_, _*_, _/_, _%_, _-_, _≤_, _<_}
 use mathlib.Core.Path.{_≡_}
 use mathlib.Core.Bool.{cond}
 use mathlib.Core.List.{List, [], _∷_}
 use mathlib.Core.Option.{some}
 use lib.Dec.{eqb}
-use lib.ListN.{length, getD, set, replicate}
+use lib.ListN.{set, replicate, length, getD}
 use Rattle.text.specs.Unicode.{utf16s}
-use Rattle.text.specs.Utf8.{stepAt, partsFrom, scalarsOf, unitsOf}
+use Rattle.text.specs.Utf8.{unitsOf, partsFrom, scalarsOf, stepAt}
 use Rattle.text.specs.declared.utf8.Step.the-variants.{Scalar}
 use Rattle.writer.specs.Array.{stringUnits}
 use Rattle.writer.specs.declared.packing.Carry.{Carry}

@@ -1,17 +1,18 @@
--- What the private stages of the object listing promise each other.
+-- What the stages of the object listing promise each other.
 -- Assumes nothing.
-use Prim.Native.Nat.{ℕ, suc, _+_, _-_, _*_, _/_, _≤_, _<_}
+use Prim.Native.Nat.{ℕ, _+_, _/_, _≤_, _<_, _*_, _-_}
 use mathlib.Core.Path.{_≡_}
 use mathlib.Core.Bool.{cond}
 use mathlib.Core.List.{List}
 use lib.Dec.{eqb}
-use lib.ListN.{length, getD}
+use lib.ListN.{getD, length}
 use Rattle.text.specs.Errors.{failureOf}
-use Rattle.text.specs.Result.{Result, ok, error, mapResult, _>>_, valuesOf}
+use Rattle.text.specs.Result.{Result, ok, _>>_, error, valuesOf, mapResult}
+use Rattle.text.specs.declared.reply.LengthReply.{LengthReply}
 use Rattle.reader.specs.Blocks.{blockAt}
-use Rattle.reader.specs.Objects.{regionStart, regionBlocks, objectsFrom, objectRows, noRow}
-use Rattle.reader.specs.Opening.{Opens}
+use Rattle.reader.specs.Objects.{objectsFrom, objectRows, regionStart, regionBlocks, noRow}
 use Rattle.reader.specs.Queries.{intoOutput}
+use Rattle.reader.specs.Stages.Opening.{Opens}
 use Rattle.reader.specs.declared.file_wrapper.FileWrapper.{FileWrapper}
 use Rattle.reader.specs.declared.listing.Cursor.{Cursor}
 use Rattle.reader.specs.declared.listing.Cursors.{Cursors}
@@ -20,13 +21,10 @@ use Rattle.reader.specs.declared.listing.Listing.the-variants as listing
 use Rattle.reader.specs.declared.listing.ObjectList.{ObjectList}
 use Rattle.reader.specs.declared.listing.ObjectsCheck.{ObjectsCheck}
 use Rattle.reader.specs.declared.listing.ObjectsCheck.the-variants as objects-check
-use Rattle.text.specs.declared.reply.LengthReply.{LengthReply}
 use Rattle.reader.specs.declared.listing.Plan.{Plan}
 use Rattle.reader.specs.declared.listing.Step.{Step}
 use Rattle.reader.specs.declared.objects.BlockId.{BlockId}
 use Rattle.reader.specs.declared.objects.ObjectRow.{ObjectRow}
-
--- ---- the checks
 
 -- check 10 for n objects from id on
 abbrev pub checkObjects : List ℕ → FileWrapper → ℕ → ℕ → Result (Unit {0})
@@ -40,8 +38,6 @@ objectsCheckOf (objects-check.Failed e) = error (failureOf e)
 -- the rows of a blob whose listing is accepted
 abbrev pub allObjects : List ℕ → List ObjectRow
 allObjects b = valuesOf (objectRows b)
-
--- ---- the index of blocks
 
 -- both regions' entries have their places in the index
 pub record PlanFor (w : FileWrapper) (p : Plan) : Type 0 where
@@ -78,8 +74,6 @@ pub record Fills (b : List ℕ) (p : Plan) (g : ℕ) (index index' : List ℕ) :
 pub record Indexes (b : List ℕ) (p : Plan) (index : List ℕ) : Type 0 where
   pub size : length index ≡ 8192
   pub entries : (g j : ℕ) → j * p .stride < regionBlocks (p .w) g → IsEntry b index p g j
-
--- ---- cursors
 
 -- a cursor stands at the block that it names, of the region that begins at start
 pub record IsCursor (b : List ℕ) (start : ℕ) (c : Cursor) : Type 0 where
@@ -131,8 +125,6 @@ pub record ToBlock (b index : List ℕ) (p : Plan) (cs : Cursors) (k : BlockId) 
   pub cursors : AreCursors b (p .w) cs
   pub below : k .id < regionBlocks (p .w) (k .region)
 
--- ---- the listing
-
 -- how many objects a listing has, or the refusal
 abbrev pub listingReplyOf : Listing → Result ℕ
 listingReplyOf (listing.Objects p n) = ok n
@@ -180,8 +172,6 @@ pub record NextObject (b : List ℕ) (s : Step) (i : ℕ) (s' : Step) : Type 0 w
   pub plan : s' .plan ≡ s .plan
   pub cursors : AreCursors b (s .plan .w) (s' .cursors)
   pub row : s' .row ≡ getD (allObjects b) i noRow
-
--- ---- eight rows by value
 
 -- the listing by value: its reply and its rows
 abbrev pub objectList : LengthReply → List ObjectRow → ObjectList

@@ -1,27 +1,23 @@
--- What the replies of decoding a payload say, what its private stages promise each other, and what the call promises.
+-- What the stages of decoding a payload promise each other.
 -- Assumes nothing.
 use Prim.Native.Nat.{ℕ, _+_, _-_, _*_, _≤_, _<_}
 use mathlib.Core.Path.{_≡_}
-use mathlib.Core.List.{List, []}
+use mathlib.Core.List.{List}
 use mathlib.Core.Option.{some}
 use lib.ListN.{length}
 use Rattle.text.specs.Buffer.{put}
 use Rattle.text.specs.Errors.{failureOf}
-use Rattle.text.specs.Result.{Result, ok, error, mapResult, valuesOf, overwritten, _>>_, _>>=_}
+use Rattle.text.specs.Result.{Result, ok, error, _>>_, _>>=_, valuesOf}
 use Rattle.text.specs.Utf16.{textOf, theText}
 use Rattle.writer.specs.Spans.{joined, spansFrom}
-use Rattle.reader.specs.declared.saveobj.NumberReply.{NumberReply}
-use Rattle.reader.specs.declared.saveobj.NumberReply.the-variants as number
+use Rattle.reader.specs.Saveobj.{Header, unitsBefore, checkHeader, checkLengths, storedUnits, storedStrings}
 use Rattle.reader.specs.declared.saveobj.HeaderReply.{HeaderReply}
 use Rattle.reader.specs.declared.saveobj.HeaderReply.the-variants as header
 use Rattle.reader.specs.declared.saveobj.LayoutReply.{LayoutReply}
 use Rattle.reader.specs.declared.saveobj.LayoutReply.the-variants as layout
-use Rattle.reader.specs.declared.saveobj.StringsReply.{StringsReply}
-use Rattle.reader.specs.declared.saveobj.StringsReply.the-variants as strings
+use Rattle.reader.specs.declared.saveobj.NumberReply.{NumberReply}
+use Rattle.reader.specs.declared.saveobj.NumberReply.the-variants as number
 use Rattle.reader.specs.declared.saveobj.Position.{Position}
-use Rattle.reader.specs.Saveobj.{Header, unitsBefore, storedUnits, storedStrings, checkHeader, checkLengths, intoStrings}
-
--- ---- replies
 
 -- a number, or the refusal
 abbrev pub numberOf : NumberReply → Result ℕ
@@ -43,22 +39,6 @@ pub record Layout : Type 0 where
 abbrev pub layoutOf : LayoutReply → Result Layout
 layoutOf (layout.Layout base n units) = ok (record { base = base; strings = n; units = units })
 layoutOf (layout.Error e) = error (failureOf e)
-
--- "text bytes and number of strings"
-pub record Counts : Type 0 where
-  pub bytes : ℕ
-  pub strings : ℕ
-
--- those of strings
-abbrev pub countsOf : List (List ℕ) → Counts
-countsOf ss = record { bytes = length (joined ss); strings = length ss }
-
--- what decoding replies, or the refusal
-abbrev pub stringsReplyOf : StringsReply → Result Counts
-stringsReplyOf (strings.Strings b n) = ok (record { bytes = b; strings = n })
-stringsReplyOf (strings.Error e) = error (failureOf e)
-
--- ---- stages
 
 -- 22 to 28
 unfoldable pub checkLayout : List ℕ → Result Layout
@@ -100,11 +80,3 @@ pub record FitsAt (m : Result (List (List ℕ))) (textRoom spanRoom : ℕ) (at :
 pub record WritesAt (m : Result (List (List ℕ))) (at : Position) (text spans : List ℕ) (next : Position) (text' spans' : List ℕ) : Type 0 where
   pub strings : next .string ≡ at .string + length (valuesOf m)
   pub writes : WritesStrings (valuesOf m) (at .byte) (at .string) text spans (next .byte) text' spans'
-
--- ---- the call
-
--- a call that writes the strings that a query comes to, as UTF-8 text end to end, and their spans
-pub record DecodesStrings (m : Result (List (List ℕ))) (text spans : List ℕ) (r : StringsReply) (text' spans' : List ℕ) : Type 0 where
-  pub reply : stringsReplyOf r ≡ mapResult countsOf (intoStrings m (length text) (length spans))
-  pub text-after : text' ≡ overwritten joined (intoStrings m (length text) (length spans)) text
-  pub spans-after : spans' ≡ overwritten (spansFrom 0) (intoStrings m (length text) (length spans)) spans

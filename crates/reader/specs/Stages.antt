@@ -1,0 +1,13 @@
+pub mod Blocks
+pub mod Cells
+pub mod Classes
+pub mod Decode
+pub mod Find
+pub mod Listing
+pub mod Names
+pub mod Objects
+pub mod Opening
+pub mod Properties
+pub mod Saveobj
+pub mod StringObjects
+pub mod Units
