@@ -11,7 +11,7 @@ use Rattle.text.specs.Result.{Result, ok, error, mapResult, orError, checkOutpu
 use Rattle.text.specs.Unicode.{utf8, utf16}
 use Rattle.text.specs.Utf16.{scalars16}
 use Rattle.text.specs.Utf8.{table, find, sequenceLength, secondRange, hasIn, matched, valueAt, wholeAt, nextAt, stepAt, partsCount, partsFrom, scalarsOf, repaired, replacedIn, scalars8, lossy, unitsOf}
-use Rattle.reader.specs.Saveobj.{unitCount, unitsBefore, storedStrings, checkHeader, checkSum, checkLengths, checkStrings, decodePayload}
+use Rattle.reader.specs.Saveobj.{unitCount, unitsBefore, storedStrings, checkHeader, checkSum, checkUnitCount, checkPairing, decodePayload}
 use Rattle.reader.specs.Units.{unitAt, unitsIn}
 use Rattle.reader.specs.Opaque.{opaqueMetadata}
 use Rattle.writer.specs.Array.{stringWords, payload, isShape, arrayOf, encodePayload}
@@ -96,7 +96,7 @@ starred =
 
 -- every case holds
 pub starred-hold : map (λ c. c .computed) starred ≡ map (λ c. c .expected) starred
-unfolding starred replacedIn flatMap foldRange foldCount decodePayload checkHeader productOf productFrom checkLengths checkSum checkStrings checkEach checkCount unitCount unitsBefore storedStrings unitsIn unitAt scalars16 opaqueMetadata buildMetadata fileWrapper offsetsFrom regions region entriesFrom u32s encodePayload arrayOf isShape spans.checkStrings checkString stringsFrom payload stringWords packed value utf8 utf16 scalarsOf repaired partsFrom partsCount stepAt wholeAt nextAt valueAt matched hasIn sequenceLength secondRange find table
+unfolding starred replacedIn flatMap foldRange foldCount decodePayload checkHeader productOf productFrom checkUnitCount checkSum checkPairing checkEach checkCount unitCount unitsBefore storedStrings unitsIn unitAt scalars16 opaqueMetadata buildMetadata fileWrapper offsetsFrom regions region entriesFrom u32s encodePayload arrayOf isShape spans.checkStrings checkString stringsFrom payload stringWords packed value utf8 utf16 scalarsOf repaired partsFrom partsCount stepAt wholeAt nextAt valueAt matched hasIn sequenceLength secondRange find table
 starred-hold = refl
 
 -- document 02's import of so many bytes whose characters have one, two and three bytes in UTF-8, into room bytes: 34 by the need alone

@@ -18,7 +18,7 @@ use Rattle.text.specs.declared.utf8.LossyReply.the-variants as lossyReply
 use Rattle.text.proofs.ResultLaws.{reply-is}
 use Rattle.writer.specs.Array.{Array}
 use Rattle.writer.specs.Spans.{joined, spansFrom}
-use Rattle.reader.specs.Replies.{findReplyOf, Counts, countsOf}
+use Rattle.reader.specs.Replies.{findReplyOf, DecodedSize, sizeOf}
 use Rattle.reader.specs.declared.find.FindReply.{FindReply}
 use Rattle.reader.specs.declared.find.FindReply.the-variants as find
 use Rattle.store.specs.Replies.{editReplyOf, Edits}
@@ -55,8 +55,8 @@ pub told-list : {A B : Type 0} {f : List A → List B} {m : ℕ → Result (List
     → Exports (λ n. n) x v place r v' place' → x ≡ mapResult length (m (length out)) → out' ≡ overwritten f (m (length out)) out → ExportsList f m out v place r out' v' place'
 told-list {m = m} {out = out} s e b = record { exports = told (m (length out)) e s; buffer = b }
 
-pub told-strings : {m : ℕ → ℕ → Result (List (List ℕ))} {text spans text' spans' : List ℕ} {x : Result Counts} {v v' : Counts} {place r place' : ℕ}
-    → Exports (λ n. n) x v place r v' place' → x ≡ mapResult countsOf (m (length text) (length spans)) → text' ≡ overwritten joined (m (length text) (length spans)) text → spans' ≡ overwritten (spansFrom 0) (m (length text) (length spans)) spans
+pub told-strings : {m : ℕ → ℕ → Result (List (List ℕ))} {text spans text' spans' : List ℕ} {x : Result DecodedSize} {v v' : DecodedSize} {place r place' : ℕ}
+    → Exports (λ n. n) x v place r v' place' → x ≡ mapResult sizeOf (m (length text) (length spans)) → text' ≡ overwritten joined (m (length text) (length spans)) text → spans' ≡ overwritten (spansFrom 0) (m (length text) (length spans)) spans
     → ExportsStrings m text spans v place r text' spans' v' place'
 told-strings {m = m} {text = text} {spans = spans} s e t n = record { exports = told (m (length text) (length spans)) e s; text-after = t; spans-after = n }
 

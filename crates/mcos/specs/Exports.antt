@@ -10,7 +10,7 @@ use Rattle.text.specs.Utf8.{partsFrom, replacedIn, lossy}
 use Rattle.writer.specs.Array.{Array}
 use Rattle.writer.specs.Spans.{joined, spansFrom}
 use Rattle.reader.specs.Queries.{intoOutput}
-use Rattle.reader.specs.Replies.{Counts, countsOf}
+use Rattle.reader.specs.Replies.{DecodedSize, sizeOf}
 use Rattle.reader.specs.declared.file_wrapper.FileWrapper.{FileWrapper}
 use Rattle.reader.specs.declared.labels.Part.{Part}
 use Rattle.reader.specs.declared.labels.Source.{Source}
@@ -52,12 +52,12 @@ pub record ExportsLossy (s out : List ℕ) (bytes replaced place r : ℕ) (out' 
   pub replaced-after : replaced' ≡ valueAfter (λ _. replacedIn (partsFrom s 0)) (intoOutput (ok (lossy s)) (length out)) replaced
 
 -- the cells of text bytes and number of strings, together
-abbrev pub countCells : ℕ → ℕ → Counts
+abbrev pub countCells : ℕ → ℕ → DecodedSize
 countCells bytes strings = record { bytes = bytes; strings = strings }
 
 -- strings as text, end to end, and their spans, with their counts
-pub record ExportsStrings (m : ℕ → ℕ → Result (List (List ℕ))) (text spans : List ℕ) (cells : Counts) (place r : ℕ) (text' spans' : List ℕ) (cells' : Counts) (place' : ℕ) : Type 0 where
-  pub exports : Exports countsOf (m (length text) (length spans)) cells place r cells' place'
+pub record ExportsStrings (m : ℕ → ℕ → Result (List (List ℕ))) (text spans : List ℕ) (cells : DecodedSize) (place r : ℕ) (text' spans' : List ℕ) (cells' : DecodedSize) (place' : ℕ) : Type 0 where
+  pub exports : Exports sizeOf (m (length text) (length spans)) cells place r cells' place'
   pub text-after : text' ≡ overwritten joined (m (length text) (length spans)) text
   pub spans-after : spans' ≡ overwritten (spansFrom 0) (m (length text) (length spans)) spans
 

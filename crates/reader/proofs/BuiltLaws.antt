@@ -24,8 +24,7 @@ use Rattle.reader.specs.Blocks.{nextBlock, blockAt, blocksFrom, blocks}
 use Rattle.reader.specs.Decode.{anyName, stringName}
 use Rattle.reader.specs.Names.{pieces, nameBytes}
 use Rattle.reader.specs.Objects.{checkBlock, blockStart, propertyCount, recordRow, objectOf, triplesFrom, checkTriple, checkTriples, recordTriples, objectTriples, position, findProperty}
-use Rattle.reader.specs.Opening as opening
-use Rattle.reader.specs.Opening.{offset, isWithin, isOrdered, opened}
+use Rattle.reader.specs.Opening.{offset, isWithin, isOrdered, checkRegions, layout, opened}
 use Rattle.reader.specs.Queries.{shown, nameText, checkNames, entryText, entryOf, classOf, objectRecord, checkObject, objectClassText}
 use Rattle.reader.specs.Wire.{u32At}
 use Rattle.reader.specs.declared.file_wrapper.FileWrapper.{FileWrapper}
@@ -182,7 +181,7 @@ module _ (n : ℕ) (few : n ≤ 349522) where
   in-order = sym (checkEach-yes 5 (isOrdered b) 0 8 (omega arith) (ordered 0 (omega arith))) ∙ each-holds 5 (isOrdered b) 8 ordered
 
   pub built-opens : opened (fileWrapper n) ≡ ok (built n)
-  unfolding opened opening.layout opening.regions pieces
+  unfolding opened layout checkRegions pieces
   built-opens =
       let l = length-file-wrapper n in
       let objects : (120 + 40 * n - (96 + 16 * n)) / 24 ≡ n + 1 = omega arith in

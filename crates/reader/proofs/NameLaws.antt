@@ -23,7 +23,7 @@ use Rattle.text.proofs.TestLaws.{either}
 use Rattle.reader.specs.Blocks.{blocks}
 use Rattle.reader.specs.Names.{nameBytes}
 use Rattle.reader.specs.Stages.Names.{HasName, IsName, InBlob}
-use Rattle.reader.specs.Opening.{declaredNames, offset, offsets, isWithin, isOrdered, pieceCount, fileWrapper, regions, layout, emptyWrapper, opened}
+use Rattle.reader.specs.Opening.{declaredNames, offset, offsets, isWithin, isOrdered, pieceCount, wrapperOf, checkRegions, layout, emptyWrapper, opened}
 use Rattle.reader.specs.Stages.Opening.{Opens}
 use Rattle.reader.specs.Queries.{intoOutput, nameText}
 use Rattle.reader.specs.Replies.{parseReplyOf, nameReplyOf, WritesText}
@@ -40,7 +40,7 @@ use Rattle.reader.proofs.names.Pieces.{from-here}
 
 -- one with a header
 by-header : (b : List ℕ) (w : FileWrapper) → length b ≤ 16777216 → opened b ≡ ok w → layout b ≡ ok w → Opens b w
-unfolding layout regions
+unfolding layout checkRegions
 by-header b w l o e =
     let p3 = seq-passed (checkEach 3 (isWithin b) 0 8) _ e in
     let p4 = check-passed 4 (leb 40 (offset b 0)) 0 _ (p3 .1 .1) in
@@ -49,7 +49,7 @@ by-header b w l o e =
     let p7 = bind-passed (blocks 12 b (offset b 1) (offset b 2)) _ (p6 .1) in
     let p8 = bind-passed (blocks 12 b (offset b 3) (offset b 4)) _ (p7 .1 .1) in
     let k = p8 .1 .1 in
-    let i : fileWrapper b (p7 .0) (p8 .0) ≡ w = cc in
+    let i : wrapperOf b (p7 .0) (p8 .0) ≡ w = cc in
     subst (Opens b) i
     (record {
       is = rw i o;

@@ -24,7 +24,7 @@ use Rattle.writer.proofs.ArrayLaws.{array-passed, strings-well-formed}
 use Rattle.writer.proofs.ShapeLaws.{shape-product}
 use Rattle.writer.proofs.StringWordLaws.{length-strings, all-units-append}
 use Rattle.writer.proofs.WordLaws.{length-packed}
-use Rattle.reader.specs.Saveobj.{storedDims, unitCount, unitsBefore, storedUnits, storedStrings, checkHeader, checkSum, checkLengths, checkStrings, decodePayload}
+use Rattle.reader.specs.Saveobj.{storedDims, unitCount, unitsBefore, storedUnits, storedStrings, checkHeader, checkSum, checkUnitCount, checkPairing, decodePayload}
 use Rattle.reader.specs.Units.{unitsIn}
 use Rattle.reader.proofs.saveobj.Lengths.{sumFits}
 use Rattle.reader.proofs.units.Packed.{part-within}
@@ -150,8 +150,8 @@ module _ (a : Array) (x : List ℕ) (h : Writable a x) where
       (omega (arith, before-is i (omega arith), count-is i l, count-most i l, few))))
       (ap ok (before-is n (omega arith) ∙ ap (λ (rs : List (List ℕ)). length (allUnits rs)) (take-length ss)))
 
-  lengths-are : checkLengths w base n ≡ ok tt
-  unfolding checkLengths
+  lengths-are : checkUnitCount w base n ≡ ok tt
+  unfolding checkUnitCount
   lengths-are = rw sum-is (simp (le-leb (length (allUnits ss)) (4 * (length w - (base + n))) (omega (arith, length-words))))
 
   units-is : (i : ℕ) → i < n → storedUnits w base n i ≡ stringUnits (getD ss i [])
@@ -175,8 +175,8 @@ module _ (a : Array) (x : List ℕ) (h : Writable a x) where
       let l : i < n = omega arith in
       rw (drop-cons ss i [] l, text-is i l) (ap (λ (rs : List (List ℕ)). getD ss i [] ∷ rs) (stored-are k (suc i) (omega arith)))
 
-  strings-are : checkStrings w base n ≡ ok ss
-  unfolding checkStrings
+  strings-are : checkPairing w base n ≡ ok ss
+  unfolding checkPairing
   strings-are =
       rw (each-holds 29 (isPaired w base n) n (λ i l. ap isSome (text-is i l))) (ap ok (stored-are n 0 (omega arith)))
 

@@ -52,14 +52,14 @@ abbrev pub stringName : List ℕ
 stringName = 0x73 ∷ 0x74 ∷ 0x72 ∷ 0x69 ∷ 0x6E ∷ 0x67 ∷ []
 
 -- 16 for a class, as it is shown
-abbrev pub checkString : Result (List ℕ) → Result (Unit {0})
-checkString shown = do
+abbrev pub checkStringClass : Result (List ℕ) → Result (Unit {0})
+checkStringClass shown = do
   class ← shown
   check 16 (same class stringName) 0
 
 -- 9, 11, 11, 16 for the class of an id
 unfoldable pub stringClass : List ℕ → FileWrapper → ℕ → Result (Unit {0})
-stringClass blob w c = checkString (classOf blob w c)
+stringClass blob w c = checkStringClass (classOf blob w c)
 
 -- the position of the property that leads to the cell: "the property named "any", else the first"
 abbrev pub chosenIndex : List ℕ → FileWrapper → List Triple → ℕ

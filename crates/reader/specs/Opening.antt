@@ -46,8 +46,8 @@ abbrev pub pieceCount : List ℕ → ℕ
 pieceCount b = length (pieces (heapOf b (offset b 0)))
 
 -- what opening gives: the declared names, the class entries and object records that are whole, the blocks of both regions, and the offsets
-abbrev pub fileWrapper : List ℕ → ℕ → ℕ → FileWrapper
-fileWrapper b saved normal = record {
+abbrev pub wrapperOf : List ℕ → ℕ → ℕ → FileWrapper
+wrapperOf b saved normal = record {
   names = declaredNames b;
   classes = (offset b 1 - offset b 0) / 16;
   records = (offset b 3 - offset b 2) / 24;
@@ -57,12 +57,12 @@ fileWrapper b saved normal = record {
 }
 
 -- 6 and 7
-unfoldable pub regions : List ℕ → Result FileWrapper
-regions b = do
+unfoldable pub checkRegions : List ℕ → Result FileWrapper
+checkRegions b = do
   check 6 (leb (declaredNames b) (pieceCount b)) (pieceCount b)
   saved ← blocks 12 b (offset b 1) (offset b 2)
   normal ← blocks 12 b (offset b 3) (offset b 4)
-  ok (fileWrapper b saved normal)
+  ok (wrapperOf b saved normal)
 
 -- 3 to 7, of a blob that has a header
 unfoldable pub layout : List ℕ → Result FileWrapper
@@ -70,7 +70,7 @@ layout b = do
   checkEach 3 (isWithin b) 0 8
   check 4 (leb 40 (offset b 0)) 0
   checkEach 5 (isOrdered b) 1 8
-  regions b
+  checkRegions b
 
 -- "A blob of length 0 now opens: no names, no classes, no objects." (document 02, P2) Its blocks and offsets are free; they are 0.
 abbrev pub emptyWrapper : FileWrapper

@@ -57,21 +57,21 @@ pub record WritesObjects (b : List ℕ) (rows : List ObjectRow) (r : LengthReply
   pub buffer : rows' ≡ overwritten (λ x. x) (intoOutput (objectRows b) (length rows)) rows
 
 -- "text bytes and number of strings"
-pub record Counts : Type 0 where
+pub record DecodedSize : Type 0 where
   pub bytes : ℕ
   pub strings : ℕ
 
 -- those of strings
-abbrev pub countsOf : List (List ℕ) → Counts
-countsOf ss = record { bytes = length (joined ss); strings = length ss }
+abbrev pub sizeOf : List (List ℕ) → DecodedSize
+sizeOf ss = record { bytes = length (joined ss); strings = length ss }
 
 -- what decoding replies, or the refusal
-abbrev pub stringsReplyOf : StringsReply → Result Counts
+abbrev pub stringsReplyOf : StringsReply → Result DecodedSize
 stringsReplyOf (strings.Strings b n) = ok (record { bytes = b; strings = n })
 stringsReplyOf (strings.Error e) = error (failureOf e)
 
 -- a call that writes the strings that a query comes to, as UTF-8 text end to end, and their spans
 pub record DecodesStrings (m : Result (List (List ℕ))) (text spans : List ℕ) (r : StringsReply) (text' spans' : List ℕ) : Type 0 where
-  pub reply : stringsReplyOf r ≡ mapResult countsOf (intoStrings m (length text) (length spans))
+  pub reply : stringsReplyOf r ≡ mapResult sizeOf (intoStrings m (length text) (length spans))
   pub text-after : text' ≡ overwritten joined (intoStrings m (length text) (length spans)) text
   pub spans-after : spans' ≡ overwritten (spansFrom 0) (intoStrings m (length text) (length spans)) spans

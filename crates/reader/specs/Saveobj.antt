@@ -68,14 +68,14 @@ checkSum payload base n = do
   ok (unitsBefore payload base n)
 
 -- 28 "Are there that many code units?"
-unfoldable pub checkLengths : List ℕ → ℕ → ℕ → Result (Unit {0})
-checkLengths payload base n = do
+unfoldable pub checkUnitCount : List ℕ → ℕ → ℕ → Result (Unit {0})
+checkUnitCount payload base n = do
   sum ← checkSum payload base n
   check 28 (leb sum (4 * (length payload - (base + n)))) sum
 
 -- 29 "Is every surrogate paired within its string?"
-unfoldable pub checkStrings : List ℕ → ℕ → ℕ → Result (List (List ℕ))
-checkStrings payload base n = do
+unfoldable pub checkPairing : List ℕ → ℕ → ℕ → Result (List (List ℕ))
+checkPairing payload base n = do
   checkEach 29 (λ i. isSome (textOf (storedUnits payload base n i))) 0 n
   ok (storedStrings payload base n 0 n)
 
@@ -83,8 +83,8 @@ checkStrings payload base n = do
 unfoldable pub decodePayload : List ℕ → Result (List (List ℕ))
 decodePayload payload = do
   header ← checkHeader payload
-  checkLengths payload (header .base) (header .strings)
-  checkStrings payload (header .base) (header .strings)
+  checkUnitCount payload (header .base) (header .strings)
+  checkPairing payload (header .base) (header .strings)
 
 -- the dimensions and the strings of a payload that decodes
 abbrev pub decodedArray : List ℕ → Array

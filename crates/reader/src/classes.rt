@@ -22,7 +22,7 @@ ghost use Rattle.text.specs.Buffer.{Puts};
 ghost use Rattle.text.specs.Replies.{checkedOf};
 ghost use Rattle.text.specs.Result.{ok};
 ghost use Rattle.text.specs.Utf8.{lossy};
-ghost use Rattle.reader.specs.Decode.{checkString, stringClass};
+ghost use Rattle.reader.specs.Decode.{checkStringClass, stringClass};
 ghost use Rattle.reader.specs.Stages.Names.{pieceBytes, InBlob, IsLength, BothInBlob};
 ghost use Rattle.reader.specs.Stages.Opening.{Opens};
 ghost use Rattle.reader.specs.Queries.{checkNames, entryText, entryOf, classOf, classText, objectClassText};
@@ -130,7 +130,7 @@ fn write_class(blob: &[u8], w: FileWrapper, class_id: u32, text: &mut [u8]) -> N
 // has not.
 fn check_string_entry(blob: &[u8], w: FileWrapper, entry: ClassEntry) -> Checked
     requires { ⌜ Opens (now blob) w ⌝ }
-    ensures { λ r. ⌜ checkedOf r ≡ checkString (entryText (now (blob .entry)) w entry) ⌝ }
+    ensures { λ r. ⌜ checkedOf r ≡ checkStringClass (entryText (now (blob .entry)) w entry) ⌝ }
 {
     if let Checked::Failed(e) = check_names(w, entry) {
         return Checked::Failed(e);

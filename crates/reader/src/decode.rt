@@ -9,7 +9,7 @@ use crate::opaque::parse_opaque_metadata;
 use crate::saveobj::Position;
 use crate::saveobj::StringsReply;
 use crate::saveobj::check_outputs;
-use crate::saveobj::measure_payload;
+use crate::saveobj::measure_saveobj;
 use crate::saveobj::put_payload;
 use text::reply::Checked;
 ghost use mathlib.Core.Path.{_≡_};
@@ -18,16 +18,16 @@ ghost use Rattle.text.specs.Result.{mapResult};
 ghost use Rattle.reader.specs.Stages.Cells.{IsDirectory};
 ghost use Rattle.reader.specs.Decode.{idStrings, idsStrings, metadataStrings};
 ghost use Rattle.reader.specs.Stages.Decode.{IdFits, IdsThere, IdsFit};
-ghost use Rattle.reader.specs.Replies.{countsOf, stringsReplyOf, DecodesStrings};
+ghost use Rattle.reader.specs.Replies.{sizeOf, stringsReplyOf, DecodesStrings};
 ghost use Rattle.reader.specs.Stages.Saveobj.{origin, WritesAt};
 
 // Checks 14, 15 and 22 to 29 for one id, and what its strings need.
 fn measure_id(directory: &[u64], kinds: &[u8], words: &[u64], id: u32) -> StringsReply
     requires { ⌜ IsDirectory (now directory) (now kinds) (length (now words)) ⌝ }
-    ensures { λ r. ⌜ stringsReplyOf r ≡ mapResult countsOf (idStrings (now (directory .entry)) (now (kinds .entry)) (now (words .entry)) id) ⌝ }
+    ensures { λ r. ⌜ stringsReplyOf r ≡ mapResult sizeOf (idStrings (now (directory .entry)) (now (kinds .entry)) (now (words .entry)) id) ⌝ }
 {
     match cell_of(directory, kinds, words, id) {
-        CellReply::Cell { start, end } => measure_payload(&words[start..end]),
+        CellReply::Cell { start, end } => measure_saveobj(&words[start..end]),
         CellReply::Error(e) => StringsReply::Error(e),
     }
 }
@@ -42,7 +42,7 @@ fn measure_ids(
     n: usize,
 ) -> StringsReply
     requires { ⌜ IdsThere (now directory) (now kinds) (now words) (now metadata) first n ⌝ }
-    ensures { λ r. ⌜ stringsReplyOf r ≡ mapResult countsOf (idsStrings (now (directory .entry)) (now (kinds .entry)) (now (words .entry)) (now (metadata .entry)) first n) ⌝ }
+    ensures { λ r. ⌜ stringsReplyOf r ≡ mapResult sizeOf (idsStrings (now (directory .entry)) (now (kinds .entry)) (now (words .entry)) (now (metadata .entry)) first n) ⌝ }
 {
     let mut bytes: usize = 0;
     let mut strings: usize = 0;

@@ -13,7 +13,7 @@ ghost use Prim.Native.Nat.{_≤_, _<_};
 ghost use lib.ListN.{length};
 ghost use Rattle.text.specs.Replies.{checkedOf};
 ghost use Rattle.text.specs.Result.{checkEach};
-ghost use Rattle.reader.specs.Opening.{offset, offsets, isWithin, isOrdered, regions, emptyWrapper, opened};
+ghost use Rattle.reader.specs.Opening.{offset, offsets, isWithin, isOrdered, checkRegions, emptyWrapper, opened};
 ghost use Rattle.reader.specs.Stages.Opening.{Ordered};
 ghost use Rattle.reader.specs.Replies.{parseReplyOf};
 
@@ -165,7 +165,7 @@ impl FileWrapper {
 // Checks 6 and 7, once the offsets are right.
 fn parse_regions(blob: &[u8], offsets: Offsets) -> ParseReply
     requires { ⌜ Ordered (now blob) offsets ⌝ }
-    ensures { λ r. ⌜ parseReplyOf r ≡ regions (now (blob .entry)) ⌝ }
+    ensures { λ r. ⌜ parseReplyOf r ≡ checkRegions (now (blob .entry)) ⌝ }
 {
     let names = read_u32(blob, 4);
     let pieces = count_pieces(blob, HEADER, offsets.o0);

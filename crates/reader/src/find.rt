@@ -12,7 +12,7 @@ ghost use Prim.Native.Nat.{_+_, _≤_, _<_};
 ghost use lib.ListN.{length};
 ghost use Rattle.reader.specs.Objects.{isNamed, findProperty, triplesFrom};
 ghost use Rattle.reader.specs.Stages.Properties.{TriplesIn, PassedTriples};
-ghost use Rattle.reader.specs.Stages.Find.{firstIndex, firstOf, flagged, ToNames, Looks, Marks, Advances};
+ghost use Rattle.reader.specs.Stages.Find.{firstIndex, firstOf, flagged, ToNames, ComparesName, FlagsNames, ScansNames};
 ghost use Rattle.reader.specs.Replies.{findReplyOf};
 
 // So many names are looked at, and flagged, before the triples are searched once for all of them: a search for each name by itself
@@ -65,7 +65,7 @@ struct Looked {
 // Looks at name index, which begins at start. Index 0 is the empty name, before the first piece.
 fn look_at(blob: &[u8], w: FileWrapper, index: usize, start: usize, wanted: &[u8]) -> Looked
     requires { ⌜ ToNames (now blob) w index (index + 1) start ⌝ }
-    ensures { λ r. ⌜ Looks (now (blob .entry)) w (now (wanted .entry)) index r ⌝ }
+    ensures { λ r. ⌜ ComparesName (now (blob .entry)) w (now (wanted .entry)) index r ⌝ }
 {
     if index == 0 {
         let shown = is_lossy(&blob[0..0], wanted);
@@ -90,7 +90,7 @@ fn mark_names(
     flags: &mut [bool; 4096],
 ) -> Looked
     requires { ⌜ ToNames (now blob) w first end start × (length (now flags) ≡ 4096) ⌝ }
-    ensures { λ r. ⌜ Marks (now (blob .entry)) w (now (wanted .entry)) first end (now (flags .exit)) r ⌝ }
+    ensures { λ r. ⌜ FlagsNames (now (blob .entry)) w (now (wanted .entry)) first end (now (flags .exit)) r ⌝ }
 {
     let mut shown = false;
     let mut next = start;
@@ -127,7 +127,7 @@ fn chunk_end(name: usize, names: u32) -> usize
 // Looks at a chunk of names, and if one of them is wanted, at the triples before best.
 fn next_chunk(blob: &[u8], w: FileWrapper, at: usize, walk: Walk, wanted: &[u8]) -> Walk
     requires { ⌜ ToNames (now blob) w (walk .name) (walk .name + 1) (walk .start) × TriplesIn (now blob) at (walk .best) ⌝ }
-    ensures { λ r. ⌜ Advances (now (blob .entry)) w at (now (wanted .entry)) walk r ⌝ }
+    ensures { λ r. ⌜ ScansNames (now (blob .entry)) w at (now (wanted .entry)) walk r ⌝ }
 {
     let end = chunk_end(walk.name, w.names);
     let mut flags = [false; CHUNK];

@@ -21,7 +21,7 @@ ghost use Prim.Native.Nat.{_+_, _-_, _*_, _≤_, _<_};
 ghost use lib.ListN.{length};
 ghost use Rattle.text.specs.Replies.{lengthReplyOf};
 ghost use Rattle.reader.specs.Stages.Blocks.{HasBlock};
-ghost use Rattle.reader.specs.Stages.Listing.{checkObjects, objectsCheckOf, PlanFor, IsPlan, firstEntry, Fills, HasIndex, cursorOf, withCursor, firstCursors, cursorFrom, cursorAt, Nears, Nearest, ToBlock, IsListing, Lists, listingReplyOf, countOf, Starts, ToNext, NextObject, objectList};
+ghost use Rattle.reader.specs.Stages.Listing.{checkObjects, objectsCheckOf, PlanFor, IsPlan, firstEntry, Fills, HasIndex, cursorOf, withCursor, firstCursors, cursorFrom, cursorAt, EntryInside, Nearest, ToBlock, IsListing, ListingFor, listingReplyOf, countOf, FirstStep, ToNext, NextObject, objectList};
 ghost use Rattle.reader.specs.Objects.{regionStart, noRow, blankRows};
 ghost use Rattle.reader.specs.Stages.Opening.{Opens};
 ghost use Rattle.reader.specs.Replies.{WritesObjects};
@@ -217,7 +217,7 @@ fn widen(x: u32) -> usize
 
 // Where the walk to a block sets out, at most a stride before it: the region's cursor, or the last entry that is not past the block.
 fn nearest(index: &[u32; ENTRIES], plan: Plan, cursors: Cursors, block: BlockId) -> Cursor
-    requires { ⌜ Nears plan block × (length (now index) ≡ 8192) ⌝ }
+    requires { ⌜ EntryInside plan block × (length (now index) ≡ 8192) ⌝ }
     ensures { λ r. ⌜ Nearest (now (index .entry)) plan cursors block r ⌝ }
 {
     let cursor = cursor_of(cursors, block.region);
@@ -267,7 +267,7 @@ fn object_count(w: FileWrapper) -> usize
 
 // The listing for so many rows: all checks.
 fn start_listing(blob: &[u8], room: usize) -> Listing
-    ensures { λ r. ⌜ Lists (now (blob .entry)) room r ⌝ }
+    ensures { λ r. ⌜ ListingFor (now (blob .entry)) room r ⌝ }
 {
     match FileWrapper::parse(blob) {
         ParseReply::Parsed(w) => match check_objects(blob, w) {
@@ -349,7 +349,7 @@ fn unread(plan: Plan) -> Step
 
 // The listing before its first object; a refused one has none.
 fn first_step(listing: Listing) -> Step
-    ensures { λ r. ⌜ Starts listing r ⌝ }
+    ensures { λ r. ⌜ FirstStep listing r ⌝ }
 {
     match listing {
         Listing::Objects { plan, count: _ } => unread(plan),

@@ -16,9 +16,9 @@ ghost use Prim.Native.Nat.{_+_, _*_, _^_, _≤_, _<_};
 ghost use lib.ListN.{length};
 ghost use Rattle.text.specs.Replies.{checkedOf};
 ghost use Rattle.text.specs.Result.{mapResult};
-ghost use Rattle.reader.specs.Saveobj.{unitCount, storedStrings, checkHeader, checkSum, checkStrings, decodePayload, isCanonicalPayload, checkOutputs};
+ghost use Rattle.reader.specs.Saveobj.{unitCount, storedStrings, checkHeader, checkSum, checkPairing, decodePayload, isCanonicalPayload, checkOutputs};
 ghost use Rattle.reader.specs.Stages.Saveobj.{numberOf, headerOf, layoutOf, checkLayout, UnitsChecked, StringsFit, WritesStrings, FitsAt, WritesAt};
-ghost use Rattle.reader.specs.Replies.{countsOf, stringsReplyOf, DecodesStrings};
+ghost use Rattle.reader.specs.Replies.{sizeOf, stringsReplyOf, DecodesStrings};
 
 // The length that marks a missing string.
 const MISSING: u64 = 0xFFFF_FFFF_FFFF_FFFF;
@@ -137,7 +137,7 @@ pub enum StringsReply {
 // that has no partner. A missing string has no units, and counts in the index. No other walk over a payload looks at pairing.
 fn measure_strings(payload: &[u64], base: usize, n: usize) -> StringsReply
     requires { ⌜ UnitsChecked (now payload) base n ⌝ }
-    ensures { λ r. ⌜ stringsReplyOf r ≡ mapResult countsOf (checkStrings (now (payload .entry)) base n) ⌝ }
+    ensures { λ r. ⌜ stringsReplyOf r ≡ mapResult sizeOf (checkPairing (now (payload .entry)) base n) ⌝ }
 {
     let first = base + n;
     let mut bytes: usize = 0;
@@ -175,8 +175,8 @@ fn measure_strings(payload: &[u64], base: usize, n: usize) -> StringsReply
 }
 
 // Checks 22 to 29, and what a payload's strings need.
-pub(crate) fn measure_payload(payload: &[u64]) -> StringsReply
-    ensures { λ r. ⌜ stringsReplyOf r ≡ mapResult countsOf (decodePayload (now (payload .entry))) ⌝ }
+pub(crate) fn measure_saveobj(payload: &[u64]) -> StringsReply
+    ensures { λ r. ⌜ stringsReplyOf r ≡ mapResult sizeOf (decodePayload (now (payload .entry))) ⌝ }
 {
     match read_layout(payload) {
         LayoutReply::Layout {
@@ -265,7 +265,7 @@ pub fn decode_string_saveobj(payload: &[u64], text: &mut [u8], spans: &mut [u64]
         let m = decodePayload (now (payload .entry)) in
         DecodesStrings m (now (text .entry)) (now (spans .entry)) r (now (text .exit)) (now (spans .exit))) ⌝ }
 {
-    match measure_payload(payload) {
+    match measure_saveobj(payload) {
         StringsReply::Strings { bytes, strings } => {
             if let Checked::Failed(e) = check_outputs(bytes, strings, text.len(), spans.len()) {
                 return StringsReply::Error(e);

@@ -13,7 +13,7 @@ ghost use lib.Dec.{eqb};
 ghost use lib.ListN.{length};
 ghost use Rattle.text.specs.Buffer.{put};
 ghost use Rattle.text.specs.Latin9.{codePoint, byteOf, latin9Bytes, exportLatin9, latin9Text, importLatin9};
-ghost use Rattle.text.specs.Stages.Latin9.{IsTable, byteReplyOf, sizeBy, Stands, BytesFit};
+ghost use Rattle.text.specs.Stages.Latin9.{IsTable, byteReplyOf, sizeBy, CharacterAt, BytesFit};
 ghost use Rattle.text.specs.Replies.{lengthReplyOf, Writes};
 ghost use Rattle.text.specs.Result.{mapResult, valuesOf};
 ghost use Rattle.text.specs.Unicode.{utf8};
@@ -75,7 +75,7 @@ fn byte_of(value: u32) -> ByteReply
 
 // The byte of the character of so many bytes at a position, which is not ASCII. None of four bytes has one.
 fn byte_at(text: &[u8], at: usize, size: usize) -> ByteReply
-    requires { ⌜ Stands (now text) at size ⌝ }
+    requires { ⌜ CharacterAt (now text) at size ⌝ }
     ensures { λ r. ⌜ byteReplyOf r ≡ byteOf (valueAt (now (text .entry)) at size) ⌝ }
 {
     if size == 2 {

@@ -18,7 +18,7 @@ use Rattle.text.specs.declared.reply.Checked.the-variants as checked
 use Rattle.text.proofs.ResultLaws.{reply-is}
 use Rattle.text.proofs.SameLaws.{same-not}
 use Rattle.text.proofs.TestLaws.{not-both}
-use Rattle.reader.specs.Decode.{stringName, checkString, stringClass}
+use Rattle.reader.specs.Decode.{stringName, checkStringClass, stringClass}
 use Rattle.reader.specs.Stages.Names.{IsName}
 use Rattle.reader.specs.Queries.{checkNames, entryText, entryOf, classOf}
 use Rattle.reader.specs.Stages.Classes.{classReplyOf}
@@ -52,28 +52,28 @@ same-stop xs ys = same-not (xs ++ 0x2E ∷ ys) stringName (λ e. not-both (stop-
 -- ---- the entry of a class
 
 module _ (b : List ℕ) (w : FileWrapper) (e : ClassEntry) {y : Checked} (d : checkedOf y ≡ checkNames w e) where
-  pub string-refused : {f : MatError} → y ≡ checked.Failed f → checkedOf (checked.Failed f) ≡ checkString (entryText b w e)
+  pub string-refused : {f : MatError} → y ≡ checked.Failed f → checkedOf (checked.Failed f) ≡ checkStringClass (entryText b w e)
   unfolding entryText
   string-refused g = rw (reply-is checkedOf d g)
 
   module _ (g : y ≡ checked.Passed) where
-    pub string-joined : (e .«namespace_idx» ≡ 0 → ⊥) → checkedOf (checked.Failed (NotStringObject 0)) ≡ checkString (entryText b w e)
+    pub string-joined : (e .«namespace_idx» ≡ 0 → ⊥) → checkedOf (checked.Failed (NotStringObject 0)) ≡ checkStringClass (entryText b w e)
     unfolding entryText
     string-joined h = rw (reply-is checkedOf d g) (simp (ne-eqb (e .«namespace_idx») 0 h, same-stop))
 
     module _ (plain : e .«namespace_idx» ≡ 0) {p : Piece} (n : IsName b (w .offsets .o0) (e .«name_idx») p) {t : Bool}
         (l : t ≡ same (lossy (take (p .end - p .start) (drop (p .start) b))) stringName) where
-      plain-is : check 16 t 0 ≡ checkString (entryText b w e)
+      plain-is : check 16 t 0 ≡ checkStringClass (entryText b w e)
       unfolding entryText
       plain-is =
           rw (reply-is checkedOf d g)
           (simp (eq-eqb (e .«namespace_idx») 0 plain)
           (ap (λ (s : Bool). check 16 s 0) (l ∙ ap (λ (s : List ℕ). same (lossy s) stringName) (part-slice (p .start) (p .end) b (n .order) ∙ n .is))))
 
-      pub string-found : t ≡ true → checkedOf checked.Passed ≡ checkString (entryText b w e)
+      pub string-found : t ≡ true → checkedOf checked.Passed ≡ checkStringClass (entryText b w e)
       string-found h = rw h at plain-is
 
-      pub string-other : t ≡ false → checkedOf (checked.Failed (NotStringObject 0)) ≡ checkString (entryText b w e)
+      pub string-other : t ≡ false → checkedOf (checked.Failed (NotStringObject 0)) ≡ checkStringClass (entryText b w e)
       string-other h = rw h at plain-is
 
 -- ---- the class of an id
@@ -83,6 +83,6 @@ module _ (b : List ℕ) (w : FileWrapper) (c : ℕ) {x : ClassReply} (d : classR
   unfolding stringClass classOf
   string-no-class g = rw (reply-is classReplyOf d g)
 
-  pub string-class-entry : {e : ClassEntry} → x ≡ class.Entry e → {r : Result (Unit {0})} → r ≡ checkString (entryText b w e) → r ≡ stringClass b w c
+  pub string-class-entry : {e : ClassEntry} → x ≡ class.Entry e → {r : Result (Unit {0})} → r ≡ checkStringClass (entryText b w e) → r ≡ stringClass b w c
   unfolding stringClass classOf
   string-class-entry g t = t ∙ rw (reply-is classReplyOf d g)

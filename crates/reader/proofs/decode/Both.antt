@@ -10,7 +10,7 @@ use Rattle.text.specs.Result.{Result, ok, error, mapResult, _>>=_, valuesOf}
 use Rattle.text.proofs.BufferLaws.{put-more, length-put}
 use Rattle.writer.specs.Spans.{joined, spansFrom}
 use Rattle.writer.proofs.LayoutLaws.{joined-append, length-joined, spans-append, length-spans}
-use Rattle.reader.specs.Replies.{Counts, countsOf}
+use Rattle.reader.specs.Replies.{DecodedSize, sizeOf}
 use Rattle.reader.specs.Stages.Saveobj.{FitsAt, WritesAt}
 use Rattle.reader.specs.declared.saveobj.Position.{Position}
 use Rattle.reader.proofs.saveobj.Payload.{counts-are}
@@ -49,9 +49,9 @@ both-passed (error f) y {ss} e =
     let z : _≡_ {A = ℕ} 0 1 = cc in
     absurd (omega arith)
 
-pub both-counts : (x y : Strings) {b n c m : ℕ} → _≡_ {A = Result Counts} (mapResult countsOf x) (ok (record { bytes = b; strings = n }))
-    → _≡_ {A = Result Counts} (mapResult countsOf y) (ok (record { bytes = c; strings = m }))
-    → _≡_ {A = Result Counts} (mapResult countsOf (both x y)) (ok (record { bytes = b + c; strings = n + m }))
+pub both-counts : (x y : Strings) {b n c m : ℕ} → _≡_ {A = Result DecodedSize} (mapResult sizeOf x) (ok (record { bytes = b; strings = n }))
+    → _≡_ {A = Result DecodedSize} (mapResult sizeOf y) (ok (record { bytes = c; strings = m }))
+    → _≡_ {A = Result DecodedSize} (mapResult sizeOf (both x y)) (ok (record { bytes = b + c; strings = n + m }))
 unfolding both
 both-counts x y {b} {n} {c} {m} e f =
     let p = counts-are x e in

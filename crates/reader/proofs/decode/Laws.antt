@@ -21,7 +21,7 @@ use Rattle.reader.specs.Decode.{idStrings, idsStrings, metadataStrings}
 use Rattle.reader.specs.Stages.Decode.{IdFits, IdsThere, IdsFit}
 use Rattle.reader.specs.Opaque.{opaqueMetadata, opaqueReplyOf}
 use Rattle.reader.specs.Opening.{opened}
-use Rattle.reader.specs.Replies.{parseReplyOf, Counts, countsOf, stringsReplyOf, DecodesStrings}
+use Rattle.reader.specs.Replies.{parseReplyOf, DecodedSize, sizeOf, stringsReplyOf, DecodesStrings}
 use Rattle.reader.specs.Saveobj.{decodePayload, checkOutputs}
 use Rattle.reader.specs.Stages.Saveobj.{origin, FitsAt, WritesAt}
 use Rattle.reader.specs.declared.cells.CellReply.{CellReply}
@@ -48,8 +48,8 @@ module _ (directory kinds words : List ℕ) (id : ℕ) {x : CellReply} (c : Read
     unfolding idStrings
     id-is = rw (found-is c g)
 
-    pub id-measured : {r : Result Counts} → r ≡ mapResult countsOf (decodePayload (take (end - start) (drop start words)))
-        → r ≡ mapResult countsOf (idStrings directory kinds words id)
+    pub id-measured : {r : Result DecodedSize} → r ≡ mapResult sizeOf (decodePayload (take (end - start) (drop start words)))
+        → r ≡ mapResult sizeOf (idStrings directory kinds words id)
     id-measured e = rw id-is e
 
     module _ {at : Position} where
@@ -62,7 +62,7 @@ module _ (directory kinds words : List ℕ) (id : ℕ) {x : CellReply} (c : Read
       id-writes w = rw id-is w
 
   module _ {e : MatError} (g : x ≡ cell.Error e) where
-    pub id-refused : error (failureOf e) ≡ mapResult countsOf (idStrings directory kinds words id)
+    pub id-refused : error (failureOf e) ≡ mapResult sizeOf (idStrings directory kinds words id)
     unfolding idStrings
     id-refused = rw (found-not c g)
 
@@ -136,7 +136,7 @@ module _ (directory kinds words metadata : List ℕ) where
   -- the checks of the ids before id i hold, and these are the bytes and the number of their strings
   pub record MeasuringIds (first n bytes strings i : ℕ) : Type 0 where
     pub bound : i ≤ n
-    pub counts : _≡_ {A = Result Counts} (mapResult countsOf (ids first i)) (ok (record { bytes = bytes; strings = strings }))
+    pub counts : _≡_ {A = Result DecodedSize} (mapResult sizeOf (ids first i)) (ok (record { bytes = bytes; strings = strings }))
 
   module _ (first n : ℕ) where
     pub ids-start : MeasuringIds first n 0 0 0
@@ -145,11 +145,11 @@ module _ (directory kinds words metadata : List ℕ) where
 
     module _ {bytes strings i : ℕ} (m : MeasuringIds first n bytes strings i) where
       module _ (h : i < n) {x : StringsReply} where
-        pub ids-stop : {f : MatError} → x ≡ reply.Error f → stringsReplyOf x ≡ mapResult countsOf (one (first + i)) → error (failureOf f) ≡ mapResult countsOf (ids first n)
+        pub ids-stop : {f : MatError} → x ≡ reply.Error f → stringsReplyOf x ≡ mapResult sizeOf (one (first + i)) → error (failureOf f) ≡ mapResult sizeOf (ids first n)
         unfolding both
         ids-stop g e = rw (ids-around first h, counts-are (ids first i) (m .counts) .0, error-is (one (first + i)) (reply-is stringsReplyOf e g))
 
-        module _ {more others : ℕ} (g : x ≡ reply.Strings more others) (e : stringsReplyOf x ≡ mapResult countsOf (one (first + i))) where
+        module _ {more others : ℕ} (g : x ≡ reply.Strings more others) (e : stringsReplyOf x ≡ mapResult sizeOf (one (first + i))) where
           pub ids-turn : MeasuringIds first n (bytes + more) (strings + others) (i + 1)
           ids-turn = record {
             bound = omega arith;
@@ -169,7 +169,7 @@ module _ (directory kinds words metadata : List ℕ) where
             pub ids-strings : strings + others < 2 ^ 64
             ids-strings = sums-fit .1
 
-      pub ids-last : n ≤ i → _≡_ {A = Result Counts} (ok (record { bytes = bytes; strings = strings })) (mapResult countsOf (ids first n))
+      pub ids-last : n ≤ i → _≡_ {A = Result DecodedSize} (ok (record { bytes = bytes; strings = strings })) (mapResult sizeOf (ids first n))
       ids-last h =
           let e : i ≡ n = omega arith in
           sym (rw e at (m .counts))
@@ -215,7 +215,7 @@ module _ (directory kinds words metadata : List ℕ) where
 
   -- ---- the outcomes of `write_ids`, beside those of every result
 
-  module _ (first n : ℕ) (there : IdsThere directory kinds words metadata first n) {x : StringsReply} {b k : ℕ} (g : x ≡ reply.Strings b k) (e : stringsReplyOf x ≡ mapResult countsOf (ids first n)) where
+  module _ (first n : ℕ) (there : IdsThere directory kinds words metadata first n) {x : StringsReply} {b k : ℕ} (g : x ≡ reply.Strings b k) (e : stringsReplyOf x ≡ mapResult sizeOf (ids first n)) where
     -- the values of the spans fit 64 bits
     pub ids-values : 2 * k < 2 ^ 64
     ids-values =
@@ -234,7 +234,7 @@ module _ (blob directory kinds words metadata text spans : List ℕ) where
 
   refused : {f : MatError} → named ≡ error (failureOf f)
       → DecodesStrings named text spans (reply.Error f) text spans
-  refused {f} e = decode-refused named text spans (reply.Error f) (ap (mapResult countsOf) (sym e)) refl
+  refused {f} e = decode-refused named text spans (reply.Error f) (ap (mapResult sizeOf) (sym e)) refl
 
   module _ {x : ParseReply} (p : parseReplyOf x ≡ opened blob) where
     pub named-blob : {f : MatError} → x ≡ parse.Error f → DecodesStrings named text spans (reply.Error f) text spans

@@ -17,7 +17,7 @@ use Rattle.text.proofs.ResultLaws.{reply-is, checkEach-passed, Checks, checks-s
 use Rattle.reader.specs.Blocks.{blocks}
 use Rattle.reader.specs.Stages.Blocks.{IsRegion, blockCountOf}
 use Rattle.reader.specs.Names.{pieces}
-use Rattle.reader.specs.Opening.{declaredNames, offset, offsets, isWithin, isOrdered, pieceCount, regions, layout, emptyWrapper, opened}
+use Rattle.reader.specs.Opening.{declaredNames, offset, offsets, isWithin, isOrdered, pieceCount, checkRegions, layout, emptyWrapper, opened}
 use Rattle.reader.specs.Stages.Opening.{Ordered}
 use Rattle.reader.specs.Replies.{parseReplyOf}
 use Rattle.reader.specs.declared.blocks.BlockCount.{BlockCount}
@@ -118,7 +118,7 @@ module _ (b : List ℕ) (h1 : length b ≤ 16777216) (h2 : 40 ≤ length b) wher
                 inside = leb-true (offset b 4) (length b) (checkEach-passed 3 (isWithin b) 0 8 (reply-is checkedOf e3 g3) 4 (omega arith) (omega arith));
               })
 
-          pub to-regions : {m : Result FileWrapper} → m ≡ regions b → m ≡ opened b
+          pub to-regions : {m : Result FileWrapper} → m ≡ checkRegions b → m ≡ opened b
           unfolding layout
           to-regions w = by-layout (w ∙ sym (simp (reply-is checkedOf e3 g3, le-leb 40 (offset b 0) (start h4), reply-is checkedOf e5 g5)))
 
@@ -143,8 +143,8 @@ module _ {b : List ℕ} {o : Offsets} (w : Ordered b o) where
     pieces-are : p ≡ pieceCount b
     pieces-are = cut ∙ ap (λ (k : ℕ). length (pieces (slice 40 k b))) (at (λ (x : Offsets). x .o0))
 
-    pub regions-6 : p < n → parseReplyOf (parse.Error (TooFewNames p)) ≡ regions b
-    unfolding regions
+    pub regions-6 : p < n → parseReplyOf (parse.Error (TooFewNames p)) ≡ checkRegions b
+    unfolding checkRegions
     regions-6 h =
         let q = pieces-are in
         rw q (simp (lt-leb (declaredNames b) (pieceCount b) (omega arith)))
@@ -153,8 +153,8 @@ module _ {b : List ℕ} {o : Offsets} (w : Ordered b o) where
       saved-is : {y : BlockCount} → x ≡ y → blocks 12 b (offset b 1) (offset b 2) ≡ blockCountOf y
       saved-is g = sym (ap (λ (v : Offsets). blocks 12 b (v .o1) (v .o2)) (w .is)) ∙ reply-is blockCountOf saved g
 
-      pub regions-7 : {i : ℕ} → x ≡ count.Truncated i → parseReplyOf (parse.Error (PropertyBlockTruncated i)) ≡ regions b
-      unfolding regions
+      pub regions-7 : {i : ℕ} → x ≡ count.Truncated i → parseReplyOf (parse.Error (PropertyBlockTruncated i)) ≡ checkRegions b
+      unfolding checkRegions
       regions-7 g =
           let q = pieces-are in
           simp (le-leb (declaredNames b) (pieceCount b) (omega arith), saved-is g)
@@ -163,8 +163,8 @@ module _ {b : List ℕ} {o : Offsets} (w : Ordered b o) where
         normal-is : {z : BlockCount} → y ≡ z → blocks 12 b (offset b 3) (offset b 4) ≡ blockCountOf z
         normal-is h = sym (ap (λ (v : Offsets). blocks 12 b (v .o3) (v .o4)) (w .is)) ∙ reply-is blockCountOf normal h
 
-        pub regions-7-normal : {i : ℕ} → y ≡ count.Truncated i → parseReplyOf (parse.Error (PropertyBlockTruncated i)) ≡ regions b
-        unfolding regions
+        pub regions-7-normal : {i : ℕ} → y ≡ count.Truncated i → parseReplyOf (parse.Error (PropertyBlockTruncated i)) ≡ checkRegions b
+        unfolding checkRegions
         regions-7-normal h =
             let q = pieces-are in
             simp (le-leb (declaredNames b) (pieceCount b) (omega arith), saved-is g, normal-is h)
@@ -178,8 +178,8 @@ module _ {b : List ℕ} {o : Offsets} (w : Ordered b o) where
               «normalobj_blocks» = m;
               offsets = o;
             }))
-            ≡ regions b
-        unfolding regions
+            ≡ checkRegions b
+        unfolding checkRegions
         regions-ok {m} h =
             let q = pieces-are in
             simp (le-leb (declaredNames b) (pieceCount b) (omega arith), saved-is g, normal-is h) (ap ok (rw (names, w .is)))

@@ -17,11 +17,11 @@ use Rattle.text.specs.declared.error.Failure.{Failure}
 use Rattle.text.specs.declared.error.MatError.{MatError}
 use Rattle.text.proofs.ResultLaws.{reply-is, check-passed, seq-passed}
 use Rattle.text.proofs.TestLaws.{either, equal-or, not-both}
-use Rattle.reader.specs.Stages.Names.{heapPieces, FirstPiece, Standing}
+use Rattle.reader.specs.Stages.Names.{heapPieces, FirstPiece, PieceBegins}
 use Rattle.reader.specs.Names.{nameBytes}
 use Rattle.reader.specs.Objects.{triplesFrom, checkTriple, checkTriples, recordTriples, objectTriples, position, isNamed, findProperty}
 use Rattle.reader.specs.Stages.Properties.{TriplesIn, PassedTriples, triplesReplyOf, ReadsTriples}
-use Rattle.reader.specs.Stages.Find.{firstIndex, firstOf, isIn, flagged, shownIn, ToNames, Looks, Marks, Advances}
+use Rattle.reader.specs.Stages.Find.{firstIndex, firstOf, isIn, flagged, shownIn, ToNames, ComparesName, FlagsNames, ScansNames}
 use Rattle.reader.specs.Opening.{opened}
 use Rattle.reader.specs.Queries.{shown, checkObject, objectRecord}
 use Rattle.reader.specs.Replies.{findReplyOf}
@@ -150,12 +150,12 @@ module _ {b : List ℕ} {w : FileWrapper} {x start : ℕ} (n : ToNames b w x (x 
   look-inside z = stand-inside (n .heap) z declared
 
   module _ (wanted : List ℕ) {v : Bool} where
-    pub look-empty : x ≡ 0 → v ≡ same (lossy (take (0 - 0) (drop 0 b))) wanted → Looks b w wanted x (record { shown = v; next = start })
+    pub look-empty : x ≡ 0 → v ≡ same (lossy (take (0 - 0) (drop 0 b))) wanted → ComparesName b w wanted x (record { shown = v; next = start })
     unfolding nameBytes
     look-empty z l = record { is = l ∙ simp (eq-eqb x 0 z); heap = stand-empty (n .heap) z }
 
     pub look-piece : (x ≡ 0 → ⊥) → {e : ℕ} → FirstPiece b start (w .offsets .o0) e → v ≡ same (lossy (take (e - start) (drop start b))) wanted
-        → Looks b w wanted x (record { shown = v; next = e + 1 })
+        → ComparesName b w wanted x (record { shown = v; next = e + 1 })
     look-piece z {e} f l = record {
       is = l ∙ ap (λ (s : List ℕ). same (lossy s) wanted) (part-slice start e b (f .order) ∙ stand-name (n .heap) z declared f);
       heap = stand-next (n .heap) z declared f;
@@ -175,7 +175,7 @@ in-none : {first e : ℕ} → e ≤ first → (y : ℕ) → isIn first e y ≡ f
 in-none {first} {e} h y = either (leb first y) (λ t. simp (t, le-ltb y e (omega (arith, leb-true first y t)))) (λ t. simp t)
 
 module _ {b : List ℕ} {w : FileWrapper} {wanted : List ℕ} {first e start : ℕ} (n : ToNames b w first e start) where
-  pub marks-start : {flags : List Bool} → length flags ≡ 4096 → Marks b w wanted first first flags (record { shown = false; next = start })
+  pub marks-start : {flags : List Bool} → length flags ≡ 4096 → FlagsNames b w wanted first first flags (record { shown = false; next = start })
   unfolding flagged shownIn
   marks-start h = record {
     order = omega arith;
@@ -185,11 +185,11 @@ module _ {b : List ℕ} {w : FileWrapper} {wanted : List ℕ} {first e start : �
     heap = n .heap;
   }
 
-  module _ {x : ℕ} {flags : List Bool} {s : Bool} {at : ℕ} (k : Marks b w wanted first x flags (record { shown = s; next = at })) where
+  module _ {x : ℕ} {flags : List Bool} {s : Bool} {at : ℕ} (k : FlagsNames b w wanted first x flags (record { shown = s; next = at })) where
     pub marks-name : x < e → ToNames b w x (x + 1) at
     marks-name h = record { opens = n .opens; order = omega arith; size = omega arith; few = omega (arith, n .few); heap = k .heap }
 
-    module _ (h : x < e) {l : Looked} (o : Looks b w wanted x l) where
+    module _ (h : x < e) {l : Looked} (o : ComparesName b w wanted x l) where
       at-last : isIn first (x + 1) x ≡ true
       at-last = simp (le-leb first x (k .order), lt-ltb x (x + 1) (omega arith))
 
@@ -220,7 +220,7 @@ module _ {b : List ℕ} {w : FileWrapper} {wanted : List ℕ} {first e start : �
       unfolding flagged
       here-flag = rw at-last (getD-set-same flags (x - first) (l .shown) false (omega (arith, k .order, k .size, n .size)))
 
-      pub marks-turn : Marks b w wanted first (x + 1) (set flags (x - first) (l .shown)) (record { shown = s || l .shown; next = l .next })
+      pub marks-turn : FlagsNames b w wanted first (x + 1) (set flags (x - first) (l .shown)) (record { shown = s || l .shown; next = l .next })
       marks-turn = record {
         order = omega (arith, k .order);
         size = length-set flags (x - first) (l .shown) ∙ k .size;
@@ -229,7 +229,7 @@ module _ {b : List ℕ} {w : FileWrapper} {wanted : List ℕ} {first e start : �
         heap = o .heap;
       }
 
-    pub marks-last : x ≤ e → e ≤ x → Marks b w wanted first e flags (record { shown = s; next = at })
+    pub marks-last : x ≤ e → e ≤ x → FlagsNames b w wanted first e flags (record { shown = s; next = at })
     marks-last h l =
         let z : x ≡ e = omega arith in
         rw z at k
@@ -238,15 +238,15 @@ pub chunk-names : {b : List ℕ} {w : FileWrapper} {k e start : ℕ} → (k < e)
 chunk-names r n = record { opens = n .opens; order = omega arith; size = r .1; few = r .2; heap = n .heap }
 
 module _ {b : List ℕ} {w : FileWrapper} {wanted : List ℕ} {i e : ℕ} {from : Walk} {flags : List Bool} {m : Looked}
-    (r : (from .name < e) × (e ≤ from .name + 4096) × (e ≤ w .names + 1)) (k : Marks b w wanted (from .name) e flags m) where
-  advances : {best : ℕ} → best ≡ firstOf (shownIn b w wanted (from .name) e) b i (from .best) → Advances b w i wanted from (record { name = e; start = m .next; best = best })
+    (r : (from .name < e) × (e ≤ from .name + 4096) × (e ≤ w .names + 1)) (k : FlagsNames b w wanted (from .name) e flags m) where
+  advances : {best : ℕ} → best ≡ firstOf (shownIn b w wanted (from .name) e) b i (from .best) → ScansNames b w i wanted from (record { name = e; start = m .next; best = best })
   advances z = record { more = r .0; few = r .2; heap = k .heap; is = z }
 
   pub chunk-found : {best : ℕ} → best ≡ firstOf (flagged flags (from .name) e) b i (from .best)
-      → Advances b w i wanted from (record { name = e; start = m .next; best = best })
+      → ScansNames b w i wanted from (record { name = e; start = m .next; best = best })
   chunk-found z = advances (z ∙ ap (λ (p : ℕ → Bool). firstOf p b i (from .best)) (fun-ext (k .is)))
 
-  pub chunk-none : m .shown ≡ false → Advances b w i wanted from (record { name = e; start = m .next; best = from .best })
+  pub chunk-none : m .shown ≡ false → ScansNames b w i wanted from (record { name = e; start = m .next; best = from .best })
   chunk-none z = advances (of-none (shownIn b w wanted (from .name) e) (k .none z) b i (from .best))
 
 -- ---- the walk of the name heap
@@ -255,7 +255,7 @@ module _ {b : List ℕ} {w : FileWrapper} {wanted : List ℕ} {i e : ℕ} {from 
 pub record Walking (b : List ℕ) (w : FileWrapper) (i n : ℕ) (wanted : List ℕ) (k : Walk) : Type 0 where
   pub few : k .name ≤ w .names + 1
   pub order : k .best ≤ n
-  pub heap : Standing b (w .offsets .o0) (k .name) (k .start)
+  pub heap : PieceBegins b (w .offsets .o0) (k .name) (k .start)
   pub is : k .best ≡ firstOf (shownIn b w wanted 0 (k .name)) b i n
 
 -- a name index that passed its check is one of the declared
@@ -294,7 +294,7 @@ module _ {b : List ℕ} {w : FileWrapper} {i n : ℕ} (c : PassedTriples b w i n
     pub walk-triples : TriplesIn b i (k .best)
     walk-triples = record { inside = omega (arith, s .order, c .triples); most = c .triples .most }
 
-    pub walk-turn : {r : Walk} → Advances b w i wanted k r → Walking b w i n wanted r
+    pub walk-turn : {r : Walk} → ScansNames b w i wanted k r → Walking b w i n wanted r
     walk-turn {r} a =
         let o = of-or (shownIn b w wanted 0 (k .name)) (shownIn b w wanted (k .name) (r .name)) (shownIn b w wanted 0 (r .name))
         (shown-split b w wanted (k .name) (r .name) (omega (arith, a .more))) b i n in

@@ -13,7 +13,7 @@ use Rattle.text.specs.declared.error.MatError.{MatError}
 use Rattle.text.proofs.TestLaws.{either}
 use Rattle.reader.specs.Blocks.{blockEnd, blockAt}
 use Rattle.reader.specs.Stages.Blocks.{HasBlock}
-use Rattle.reader.specs.Stages.Listing.{PlanFor, IsPlan, firstEntry, entry, IsEntry, Fills, Indexes, IsCursor, cursorAt, cursorFrom, cursorOf, withCursor, firstCursors, AreCursors, Nears, Nearest, ToBlock, IsListing, HasIndex}
+use Rattle.reader.specs.Stages.Listing.{PlanFor, IsPlan, firstEntry, indexEntry, IsEntry, Fills, Indexes, IsCursor, cursorAt, cursorFrom, cursorOf, withCursor, firstCursors, AreCursors, EntryInside, Nearest, ToBlock, IsListing, HasIndex}
 use Rattle.reader.specs.Objects.{regionStart, regionBlocks}
 use Rattle.reader.specs.Stages.Opening.{Opens}
 use Rattle.reader.specs.declared.file_wrapper.FileWrapper.{FileWrapper}
@@ -147,7 +147,7 @@ module _ {b : List ℕ} {p : Plan} (plan : IsPlan b p) (g : ℕ) where
           is-there = there ∙ cursor-there (f .cursor) (f .behind)
 
           pub filling-turn : {first : ℕ} → first ≡ firstEntry p g → Filling b p g index (set index' (first + j) (c' .at)) c' (j + 1) (block + p .stride)
-          unfolding entry
+          unfolding indexEntry
           filling-turn {first} q =
               let at-block : c' .at ≡ blockAt 12 b (regionStart (p .w) g) block = ap (λ (x : Cursor). x .at) is-there in
               let z : c' .block ≡ block = ap (λ (x : Cursor). x .block) is-there in
@@ -180,7 +180,7 @@ pub index-plan : (b : List ℕ) {x : Listing} {p : Plan} {n : ℕ} → x ≡ lis
 index-plan b g l = (subst (IsListing b) g l) .0 .plan
 
 pub index-filled : {b : List ℕ} {x : Listing} {p : Plan} {n : ℕ} → x ≡ listing.Objects p n → IsListing b x → {index one two : List ℕ} → Fills b p 0 index one → Fills b p 1 one two → HasIndex b x two
-unfolding entry
+unfolding indexEntry
 index-filled {b} {x} {p} {n} g l {index} {one} {two} f s =
     let q = index-plan b g l in
     rw g (record {
@@ -206,13 +206,13 @@ module _ {index : List ℕ} {p : Plan} {cs : Cursors} {k : BlockId} where
   near-here e h = record { behind = h; is = λ b start i d. rw e i }
 
   pub near-entry : {first : ℕ} → first ≡ firstEntry p (k .region) → {a : ℕ} → a ≡ getD index (first + k .id / p .stride) 0 → Nearest index p cs k (record { block = k .id - k .id % p .stride; at = a })
-  unfolding entry
+  unfolding indexEntry
   near-entry q e =
       let z : k .id - k .id % p .stride ≡ k .id / p .stride * p .stride = omega (arith, div-add-mod' (k .id) (p .stride)) in
       record { behind = omega arith; is = λ b start i d. record { is = rw (e, q, z) d } }
 
 module _ {b index : List ℕ} {p : Plan} {cs : Cursors} {k : BlockId} (to : ToBlock b index p cs k) where
-  pub block-near : Nears p k
+  pub block-near : EntryInside p k
   block-near =
       let l : k .id / p .stride ≤ regionBlocks (p .w) (k .region) / p .stride = le-div-iff-mul-le {x = k .id / p .stride} {y = regionBlocks (p .w) (k .region)} (to .plan .plan .least) .1 (omega (arith, div-mul-le-self (k .id) (p .stride), to .below)) in
       record { least = to .plan .plan .least; room = omega (arith, l, blocks-room (to .plan) (k .region)) }

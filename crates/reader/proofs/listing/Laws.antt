@@ -22,7 +22,7 @@ use Rattle.text.specs.declared.reply.LengthReply.the-variants as reply
 use Rattle.text.proofs.ResultLaws.{reply-is, seq-passed, seq-failed, bind-passed}
 use Rattle.text.proofs.TestLaws.{either}
 use Rattle.reader.specs.Blocks.{blockEnd, blockAt}
-use Rattle.reader.specs.Stages.Listing.{checkObjects, objectsCheckOf, allObjects, PlanFor, Indexes, cursorAt, withCursor, firstCursors, AreCursors, ToBlock, listingReplyOf, countOf, Listable, IsListing, Lists, HasIndex, Starts, ToNext, NextObject}
+use Rattle.reader.specs.Stages.Listing.{checkObjects, objectsCheckOf, allObjects, PlanFor, Indexes, cursorAt, withCursor, firstCursors, AreCursors, ToBlock, listingReplyOf, countOf, Listable, IsListing, ListingFor, HasIndex, FirstStep, ToNext, NextObject}
 use Rattle.reader.specs.Objects.{regionStart, regionBlocks, checkBlock, objectRow, recordRow, objectOf, objectsFrom, objectRows, noRow, blankRows}
 use Rattle.reader.specs.Stages.Objects.{blockOf, rowFrom}
 use Rattle.reader.specs.Opening.{opened}
@@ -141,7 +141,7 @@ module _ (b : List ℕ) (w : FileWrapper) where
 -- ---- the listing of a blob
 
 module _ (b : List ℕ) (room : ℕ) {x : ParseReply} (e : parseReplyOf x ≡ opened b) where
-  pub start-refused : {f : MatError} → x ≡ parse.Error f → Lists b room (listing.Refused f)
+  pub start-refused : {f : MatError} → x ≡ parse.Error f → ListingFor b room (listing.Refused f)
   unfolding objectRows
   start-refused g = record { reply = rw (reply-is parseReplyOf e g); is = tt }
 
@@ -156,7 +156,7 @@ module _ (b : List ℕ) (room : ℕ) {x : ParseReply} (e : parseReplyOf x ≡ op
         omega (arith, o, blocks-few 12 b (w .offsets .o1) (w .offsets .o2) (w .«saveobj_blocks») (o .saveobj-blocks), blocks-few 12 b (w .offsets .o3) (w .offsets .o4) (w .«normalobj_blocks») (o .normalobj-blocks))
 
     module _ {y : ObjectsCheck} (said : objectsCheckOf y ≡ checkObjects b w 1 (w .records - 1)) where
-      pub start-failed : {f : MatError} → y ≡ objects-check.Failed f → Lists b room (listing.Refused f)
+      pub start-failed : {f : MatError} → y ≡ objects-check.Failed f → ListingFor b room (listing.Refused f)
       start-failed h =
           let c = seq-failed (objectsFrom b w 1 (w .records - 1)) tt (reply-is objectsCheckOf said h) in
           record { reply = rw (rows-are, c); is = tt }
@@ -173,13 +173,13 @@ module _ (b : List ℕ) (room : ℕ) {x : ParseReply} (e : parseReplyOf x ≡ op
         count : length (allObjects b) ≡ n
         count = length-objects b w 1 (w .records - 1) come ∙ sym k
 
-        pub start-short : room < n → Lists b room (listing.Refused (OutputTooShort n))
+        pub start-short : room < n → ListingFor b room (listing.Refused (OutputTooShort n))
         start-short l =
             let t : leb n room ≡ false = lt-leb n room l in
             let z : min n (2 ^ 64 - 1) ≡ n = omega (arith, few (parsed b e g)) in
             record { reply = rw (rows-ok, count, t, z); is = tt }
 
-        pub start-passed : n ≤ room → {p : Plan} → PlanFor w p → Lists b room (listing.Objects p n)
+        pub start-passed : n ≤ room → {p : Plan} → PlanFor w p → ListingFor b room (listing.Objects p n)
         start-passed l {p} q =
             let t : leb n room ≡ true = le-leb n room l in
             let z = sym (q .is) in
@@ -257,7 +257,7 @@ module _ {x : Listing} where
     pub reply-listed : lengthReplyOf (reply.Length n) ≡ listingReplyOf x
     reply-listed = rw g
 
-    pub step-first : (s : Step) → s .plan ≡ p → s .cursors ≡ firstCursors (p .w) → Starts x s
+    pub step-first : (s : Step) → s .plan ≡ p → s .cursors ≡ firstCursors (p .w) → FirstStep x s
     step-first s e c = rw g (e, c)
 
   module _ {e : MatError} (g : x ≡ listing.Refused e) where
@@ -267,7 +267,7 @@ module _ {x : Listing} where
     pub reply-refused : lengthReplyOf (reply.Error e) ≡ listingReplyOf x
     reply-refused = rw g
 
-    pub step-none : (s : Step) → Starts x s
+    pub step-none : (s : Step) → FirstStep x s
     step-none s = rw g tt
 
 pub rows-blank : {r : ObjectRow} → r ≡ noRow → r ∷ r ∷ r ∷ r ∷ r ∷ r ∷ r ∷ r ∷ [] ≡ blankRows
@@ -318,7 +318,7 @@ abbrev pub Stepping : List ℕ → Listing → Step → Type 0
 Stepping b (listing.Objects p n) s = (s .plan ≡ p) × AreCursors b (p .w) (s .cursors)
 Stepping b (listing.Refused e) s = Unit {0}
 
-pub listed-first : (b : List ℕ) (x : Listing) (s : Step) → Starts x s → Stepping b x s
+pub listed-first : (b : List ℕ) (x : Listing) (s : Step) → FirstStep x s → Stepping b x s
 listed-first b (listing.Objects p n) s h = (h .0, cursors-start (h .1))
 listed-first b (listing.Refused e) s h = tt
 
@@ -338,12 +338,12 @@ to-next {b} {index} (listing.Objects p n) {s} {i} l d h k =
     }
 to-next (listing.Refused e) l d h k = absurd (omega arith)
 
-module _ {b : List ℕ} {room : ℕ} {x : Listing} (s : Lists b room x) where
+module _ {b : List ℕ} {room : ℕ} {x : Listing} (s : ListingFor b room x) where
   pub listed-to : {index : List ℕ} → HasIndex b x index → {t : Step} → Stepping b x t → {i : ℕ} → i < written (objectRows b) room → ToNext b index t i
   listed-to d h {i} k =
       let l : i < countOf (listingReplyOf x) = rw (s .reply) k in
       to-next x (s .is) d h l
 
-pub listed : {b : List ℕ} {rows : List ObjectRow} {x : Listing} → Lists b (length rows) x → {r : LengthReply} → lengthReplyOf r ≡ listingReplyOf x
+pub listed : {b : List ℕ} {rows : List ObjectRow} {x : Listing} → ListingFor b (length rows) x → {r : LengthReply} → lengthReplyOf r ≡ listingReplyOf x
     → WritesObjects b rows r (filled (allObjects b) (written (objectRows b) (length rows)) rows)
 listed {b} {rows} s e = record { reply = e ∙ s .reply; buffer = written-all (objectRows b) rows }

@@ -21,7 +21,7 @@ use Rattle.text.proofs.BufferLaws.{length-over}
 use Rattle.text.proofs.ResultLaws.{reply-is, seq-passed, seq-failed}
 use Rattle.text.proofs.TestLaws.{either}
 use Rattle.reader.specs.Objects.{checkBlock, objectRow, triplesFrom, triplesOf, checkTriple, checkTriples, recordRow, recordTriples, objectTriples, rowOf}
-use Rattle.reader.specs.Stages.Objects.{objectReplyOf, IsBlock, Stands, ReadsObject}
+use Rattle.reader.specs.Stages.Objects.{objectReplyOf, IsBlock, CarriesBlock, ReadsObject}
 use Rattle.reader.specs.Stages.Properties.{TriplesIn, triplesReplyOf, PassedTriples, Triples, RecordTriples, ReadsTriples}
 use Rattle.reader.specs.Opening.{opened}
 use Rattle.reader.specs.Stages.Opening.{Opens}
@@ -117,7 +117,7 @@ module _ {b : List ℕ} {w : FileWrapper} {r : ObjectRecord} (o : Opens b w) {x 
 
   module _ {row : ObjectRow} {at : ℕ} (g : x ≡ object.Object row at) where
     block : IsBlock b w r (row .«property_count») at
-    block = subst (Stands b w r) g (read .stands)
+    block = subst (CarriesBlock b w r) g (read .stands)
 
     pub triples-inside : TriplesIn b (at + 4) (row .«property_count»)
     triples-inside = record { inside = block .inside; most = o .most }

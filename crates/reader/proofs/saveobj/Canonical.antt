@@ -27,10 +27,9 @@ use Rattle.writer.specs.Words.{packed}
 use Rattle.writer.proofs.LayoutLaws.{length-spans}
 use Rattle.writer.proofs.ShapeLaws.{shape-is}
 use Rattle.writer.proofs.WordLaws.{length-packed, padded}
-use Rattle.reader.specs.Saveobj.{dimCount, unitCount, unitsBefore, storedUnits, storedStrings, decodePayload, decodedArray, isCanonicalPayload}
-use Rattle.reader.specs.Saveobj as saveobj
+use Rattle.reader.specs.Saveobj.{dimCount, unitCount, unitsBefore, storedUnits, storedStrings, checkPairing, decodePayload, decodedArray, isCanonicalPayload}
 use Rattle.reader.specs.Stages.Saveobj.{layoutOf, checkLayout, UnitsChecked}
-use Rattle.reader.specs.Replies.{countsOf, stringsReplyOf}
+use Rattle.reader.specs.Replies.{sizeOf, stringsReplyOf}
 use Rattle.reader.specs.Units.{unitsIn}
 use Rattle.reader.specs.Stages.Units.{isPacked}
 use Rattle.reader.specs.declared.saveobj.LayoutReply.{LayoutReply}
@@ -373,9 +372,9 @@ module _ {p : List ℕ} {base n i : ℕ} (m : Scanning p base n i) where
   pub scan-checked : UnitsChecked p base n
   scan-checked = m .layout .checked
 
-  module _ {x : StringsReply} (e : stringsReplyOf x ≡ mapResult countsOf (saveobj.checkStrings p base n)) where
+  module _ {x : StringsReply} (e : stringsReplyOf x ≡ mapResult sizeOf (checkPairing p base n)) where
     pub scan-unpaired : {f : MatError} → x ≡ reply.Error f → false ≡ isCanonicalPayload p
-    scan-unpaired g = refused p (m .layout .strings ∙ error-is (saveobj.checkStrings p base n) (reply-is stringsReplyOf e g))
+    scan-unpaired g = refused p (m .layout .strings ∙ error-is (checkPairing p base n) (reply-is stringsReplyOf e g))
 
     pub scan-last : n ≤ i → {b c : ℕ} → x ≡ reply.Strings b c → ((k : ℕ) → getD p k 0 < 2 ^ 64) → true ≡ isCanonicalPayload p
     unfolding isPacked
@@ -384,7 +383,7 @@ module _ {p : List ℕ} {base n i : ℕ} (m : Scanning p base n i) where
         sym
         (canonical-from b
         (record {
-          decoded = decoded-by p (m .layout) (ap isOk (m .layout .strings ∙ counts-are (saveobj.checkStrings p base n) (reply-is stringsReplyOf e g) .0));
+          decoded = decoded-by p (m .layout) (ap isOk (m .layout .strings ∙ counts-are (checkPairing p base n) (reply-is stringsReplyOf e g) .0));
           given = λ k l. m .given k (omega arith);
           size = eqb-true _ _ (q .0);
           padding = eqb-true _ _ (q .1);

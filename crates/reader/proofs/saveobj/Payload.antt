@@ -1,4 +1,4 @@
--- The outcomes of `read_layout`, `measure_payload`, `put_payload` and `decode_string_saveobj`, and what a payload that passed its checks is.
+-- The outcomes of `read_layout`, `measure_saveobj`, `put_payload` and `decode_string_saveobj`, and what a payload that passed its checks is.
 -- Assumes nothing.
 use Prim.Native.Nat.{ℕ, zero, suc, _+_, _-_, _*_, _^_, _≤_, _<_, min}
 use mathlib.Core.Path.{_≡_, refl, sym, ap, subst, _∙_}
@@ -23,9 +23,9 @@ use Rattle.text.specs.declared.reply.Checked.the-variants as checked
 use Rattle.text.proofs.BufferLaws.{put-front}
 use Rattle.text.proofs.ResultLaws.{reply-is, check-passed, seq-passed, bind-passed, checkEach-passed, check-is, Checks, checks-start, checks-turn, checks-stop}
 use Rattle.writer.specs.Spans.{joined, spansFrom}
-use Rattle.reader.specs.Saveobj.{unitsBefore, Header, storedUnits, storedStrings, checkHeader, checkSum, checkLengths, checkStrings, decodePayload, checkOutputs, intoStrings}
+use Rattle.reader.specs.Saveobj.{unitsBefore, Header, storedUnits, storedStrings, checkHeader, checkSum, checkUnitCount, checkPairing, decodePayload, checkOutputs, intoStrings}
 use Rattle.reader.specs.Stages.Saveobj.{numberOf, headerOf, Layout, layoutOf, checkLayout, UnitsChecked, StringsFit, WritesStrings, origin, FitsAt, WritesAt}
-use Rattle.reader.specs.Replies.{Counts, countsOf, stringsReplyOf, DecodesStrings}
+use Rattle.reader.specs.Replies.{DecodedSize, sizeOf, stringsReplyOf, DecodesStrings}
 use Rattle.reader.specs.declared.saveobj.HeaderReply.{HeaderReply}
 use Rattle.reader.specs.declared.saveobj.HeaderReply.the-variants as header
 use Rattle.reader.specs.declared.saveobj.LayoutReply.{LayoutReply}
@@ -60,8 +60,8 @@ module _ (payload : List ℕ) (base n : ℕ) (h : HeaderPassed payload base n) w
   checked-by : {sum : ℕ} → checkSum payload base n ≡ ok sum → sum ≤ 4 * (length payload - (base + n)) → UnitsChecked payload base n
   checked-by e l = record { lengths = h .inside; units = omega (arith, sum-passed payload base n e); most = h .most }
 
-  pub strings-passed : UnitsChecked payload base n → {strings : List (List ℕ)} → checkStrings payload base n ≡ ok strings → PayloadPassed payload base n strings
-  unfolding checkStrings
+  pub strings-passed : UnitsChecked payload base n → {strings : List (List ℕ)} → checkPairing payload base n ≡ ok strings → PayloadPassed payload base n strings
+  unfolding checkPairing
   strings-passed u {strings} e =
       let p = seq-passed (checkEach 29 (isPaired payload base n) 0 n) _ e in
       let k = p .1 .1 in
@@ -73,8 +73,8 @@ module _ (payload : List ℕ) (base n : ℕ) (h : HeaderPassed payload base n) w
         many = ap length s ∙ length-stored payload base n 0 n;
       }
 
-  units-passed : {u : Unit {0}} → checkLengths payload base n ≡ ok u → UnitsChecked payload base n
-  unfolding checkLengths
+  units-passed : {u : Unit {0}} → checkUnitCount payload base n ≡ ok u → UnitsChecked payload base n
+  unfolding checkUnitCount
   units-passed e =
       let p = bind-passed (checkSum payload base n) _ e in
       checked-by (p .1 .0) (leb-true (p .0) (4 * (length payload - (base + n))) (check-is 28 (leb (p .0) (4 * (length payload - (base + n)))) (p .0) (p .1 .1)))
@@ -86,7 +86,7 @@ unfolding decodePayload
 payload-passed payload e =
     let p = bind-passed (checkHeader payload) _ e in
     let h = p .0 in
-    let q = seq-passed (checkLengths payload (h .base) (h .strings)) _ (p .1 .1) in
+    let q = seq-passed (checkUnitCount payload (h .base) (h .strings)) _ (p .1 .1) in
     let f = header-passed payload (p .1 .0) in
     (h, (p .1 .0, strings-passed payload (h .base) (h .strings) f (units-passed payload (h .base) (h .strings) f (q .1 .0)) (q .1 .1)))
 
@@ -118,17 +118,17 @@ module _ (payload : List ℕ) {x : HeaderReply} (e : headerOf x ≡ checkHeader 
 
     module _ {y : NumberReply} (s : numberOf y ≡ checkSum payload base n) where
       pub layout-sum : {f : MatError} → y ≡ number.Error f → error (failureOf f) ≡ checkLayout payload
-      unfolding checkLayout checkLengths
+      unfolding checkLayout checkUnitCount
       layout-sum k = rw (reply-is headerOf e g) (rw (reply-is numberOf s k))
 
       module _ {sum : ℕ} (k : y ≡ number.Number sum) where
         pub layout-short : 4 * (length payload - (base + n)) < sum → error (record { number = 28; place = sum }) ≡ checkLayout payload
-        unfolding checkLayout checkLengths
+        unfolding checkLayout checkUnitCount
         layout-short l = rw (reply-is headerOf e g) (simp (reply-is numberOf s k, lt-leb sum (4 * (length payload - (base + n))) l))
 
         pub layout-whole : sum ≤ 4 * (length payload - (base + n)) → {units : ℕ} → units ≡ sum
             → ok (record { base = base; strings = n; units = units }) ≡ checkLayout payload
-        unfolding checkLayout checkLengths
+        unfolding checkLayout checkUnitCount
         layout-whole l u =
             rw (reply-is headerOf e g)
             (simp (reply-is numberOf s k, le-leb sum (4 * (length payload - (base + n))) l) (rw (u, sum-passed payload base n (reply-is numberOf s k))))
@@ -146,11 +146,11 @@ then (ok a) g l f = checked-then (g a)
     checked-then (error x) = refl
 then (error x) g l f = refl
 
-pub decode-layout : (payload : List ℕ) → decodePayload payload ≡ (checkLayout payload >>= λ l. checkStrings payload (l .base) (l .strings))
+pub decode-layout : (payload : List ℕ) → decodePayload payload ≡ (checkLayout payload >>= λ l. checkPairing payload (l .base) (l .strings))
 unfolding checkLayout decodePayload
 decode-layout payload =
-    then (checkHeader payload) (λ h. checkLengths payload (h .base) (h .strings))
-    (λ h. record { base = h .base; strings = h .strings; units = unitsBefore payload (h .base) (h .strings) }) (λ l. checkStrings payload (l .base) (l .strings))
+    then (checkHeader payload) (λ h. checkUnitCount payload (h .base) (h .strings))
+    (λ h. record { base = h .base; strings = h .strings; units = unitsBefore payload (h .base) (h .strings) }) (λ l. checkPairing payload (l .base) (l .strings))
 
 -- a refusal by 22 to 28 is told, whatever the units are
 pub layout-refused : (payload : List ℕ) {f : Failure} → checkLayout payload ≡ error f → decodePayload payload ≡ error f
@@ -161,14 +161,14 @@ pub record LayoutPassed (payload : List ℕ) (base n units : ℕ) : Type 0 where
   pub header : HeaderPassed payload base n
   pub checked : UnitsChecked payload base n
   pub sum : units ≡ unitsBefore payload base n
-  pub strings : decodePayload payload ≡ checkStrings payload base n
+  pub strings : decodePayload payload ≡ checkPairing payload base n
 
 pub layout-passed : (payload : List ℕ) {l : Layout} → checkLayout payload ≡ ok l → LayoutPassed payload (l .base) (l .strings) (l .units)
 unfolding checkLayout
 layout-passed payload {l} e =
     let p = bind-passed (checkHeader payload) _ e in
     let h = p .0 in
-    let q = seq-passed (checkLengths payload (h .base) (h .strings)) _ (p .1 .1) in
+    let q = seq-passed (checkUnitCount payload (h .base) (h .strings)) _ (p .1 .1) in
     let f = header-passed payload (p .1 .0) in
     let z = q .1 .1 in
     let w : _≡_ {A = Layout} (record { base = h .base; strings = h .strings; units = unitsBefore payload (h .base) (h .strings) }) l = cc in
@@ -184,14 +184,14 @@ layout-passed payload {l} e =
 -- "A payload that fails 28 must still be told 28, though a lone surrogate stands before the shortage": the units are not asked about
 pub shortage-first : (payload : List ℕ) {h : Header} {sum : ℕ} → checkHeader payload ≡ ok h → checkSum payload (h .base) (h .strings) ≡ ok sum
     → 4 * (length payload - (h .base + h .strings)) < sum → decodePayload payload ≡ error (record { number = 28; place = sum })
-unfolding checkLayout checkLengths
+unfolding checkLayout checkUnitCount
 shortage-first payload {h} {sum} e s l =
     layout-refused payload (rw e (simp (s, lt-leb sum (4 * (length payload - (h .base + h .strings))) l)))
 
 -- "the first string with an unpaired surrogate", in a payload that passes 28
 pub unpaired-first : {payload : List ℕ} {base n units : ℕ} → LayoutPassed payload base n units → (i : ℕ) → i < n
     → ((j : ℕ) → j < i → isPaired payload base n j ≡ true) → isPaired payload base n i ≡ false → decodePayload payload ≡ error (record { number = 29; place = i })
-unfolding checkStrings
+unfolding checkPairing
 unpaired-first {payload} {base} {n} p i h f g =
     rw (p .strings, checks-stop 29 (isPaired payload base n) 0 n (upto i (omega arith) f) h g)
   where
@@ -199,11 +199,11 @@ unpaired-first {payload} {base} {n} p i h f g =
     upto zero l f = checks-start 29 (isPaired payload base n) 0 n (omega arith)
     upto (suc k) l f = rw add-one at (checks-turn 29 (isPaired payload base n) 0 n (upto k (omega arith) (λ j m. f j (omega arith))) (omega arith) (f k (omega arith)))
 
--- ---- the outcomes of `measure_payload`
+-- ---- the outcomes of `measure_saveobj`
 
 module _ (payload : List ℕ) {x : LayoutReply} (e : layoutOf x ≡ checkLayout payload) where
-  pub measure-refused : {f : MatError} → x ≡ layout.Error f → error (failureOf f) ≡ mapResult countsOf (decodePayload payload)
-  measure-refused g = ap (mapResult countsOf) (sym (layout-refused payload (reply-is layoutOf e g)))
+  pub measure-refused : {f : MatError} → x ≡ layout.Error f → error (failureOf f) ≡ mapResult sizeOf (decodePayload payload)
+  measure-refused g = ap (mapResult sizeOf) (sym (layout-refused payload (reply-is layoutOf e g)))
 
   module _ {base n units : ℕ} (g : x ≡ layout.Layout base n units) where
     pub laid-out : LayoutPassed payload base n units
@@ -212,9 +212,9 @@ module _ (payload : List ℕ) {x : LayoutReply} (e : layoutOf x ≡ checkLayout 
     pub measure-checked : UnitsChecked payload base n
     measure-checked = laid-out .checked
 
-    pub measure-strings : (y : StringsReply) → stringsReplyOf y ≡ mapResult countsOf (checkStrings payload base n)
-        → stringsReplyOf y ≡ mapResult countsOf (decodePayload payload)
-    measure-strings y m = m ∙ ap (mapResult countsOf) (sym (laid-out .strings))
+    pub measure-strings : (y : StringsReply) → stringsReplyOf y ≡ mapResult sizeOf (checkPairing payload base n)
+        → stringsReplyOf y ≡ mapResult sizeOf (decodePayload payload)
+    measure-strings y m = m ∙ ap (mapResult sizeOf) (sym (laid-out .strings))
 
 -- ---- the outcomes of `put_payload`
 
@@ -262,16 +262,16 @@ module _ (payload t s : List ℕ) (at : Position) (f : FitsAt (decodePayload pay
 
 -- ---- the outcomes of `decode_string_saveobj`
 
-pub counts-are : (m : Result (List (List ℕ))) {b n : ℕ} → _≡_ {A = Result Counts} (mapResult countsOf m) (ok (record { bytes = b; strings = n }))
+pub counts-are : (m : Result (List (List ℕ))) {b n : ℕ} → _≡_ {A = Result DecodedSize} (mapResult sizeOf m) (ok (record { bytes = b; strings = n }))
     → (m ≡ ok (valuesOf m)) × (length (joined (valuesOf m)) ≡ b) × (length (valuesOf m) ≡ n)
 counts-are (ok ss) {b} {n} e =
-    let k : _≡_ {A = Counts} (countsOf ss) (record { bytes = b; strings = n }) = cc in
-    (refl, ap (λ (c : Counts). c .bytes) k, ap (λ (c : Counts). c .strings) k)
+    let k : _≡_ {A = DecodedSize} (sizeOf ss) (record { bytes = b; strings = n }) = cc in
+    (refl, ap (λ (c : DecodedSize). c .bytes) k, ap (λ (c : DecodedSize). c .strings) k)
 counts-are (error f) {b} {n} e =
     let z : _≡_ {A = ℕ} 0 1 = cc in
     absurd (omega arith)
 
-pub error-is : (m : Result (List (List ℕ))) {f : Failure} → mapResult countsOf m ≡ error f → m ≡ error f
+pub error-is : (m : Result (List (List ℕ))) {f : Failure} → mapResult sizeOf m ≡ error f → m ≡ error f
 error-is (ok ss) {f} e =
     let z : _≡_ {A = ℕ} 0 1 = cc in
     absurd (omega arith)
@@ -302,15 +302,15 @@ module _ (b n textRoom spanRoom : ℕ) where
 
 module _ (m : Result (List (List ℕ))) (text spans : List ℕ) where
   comes : (n : Result (List (List ℕ))) {r : StringsReply} {text' spans' : List ℕ} → intoStrings m (length text) (length spans) ≡ n
-      → stringsReplyOf r ≡ mapResult countsOf n → text' ≡ overwritten joined n text → spans' ≡ overwritten (spansFrom 0) n spans
+      → stringsReplyOf r ≡ mapResult sizeOf n → text' ≡ overwritten joined n text → spans' ≡ overwritten (spansFrom 0) n spans
       → DecodesStrings m text spans r text' spans'
   comes n e p q s = record {
-    reply = p ∙ ap (mapResult countsOf) (sym e);
+    reply = p ∙ ap (mapResult sizeOf) (sym e);
     text-after = q ∙ ap (λ (n : Result (List (List ℕ))). overwritten joined n text) (sym e);
     spans-after = s ∙ ap (λ (n : Result (List (List ℕ))). overwritten (spansFrom 0) n spans) (sym e);
   }
 
-  module _ (x : StringsReply) (e : stringsReplyOf x ≡ mapResult countsOf m) where
+  module _ (x : StringsReply) (e : stringsReplyOf x ≡ mapResult sizeOf m) where
     pub decode-refused : {f : MatError} → x ≡ reply.Error f → DecodesStrings m text spans (reply.Error f) text spans
     decode-refused {f} g = comes (error (failureOf f)) (rw (error-is m (reply-is stringsReplyOf e g))) refl refl refl
 
@@ -342,7 +342,7 @@ module _ (m : Result (List (List ℕ))) (text spans : List ℕ) where
               (w .writes .spans-after ∙ put-front spans (spansFrom 0 (valuesOf m)))
 
 -- the values of the spans of a payload fit 64 bits
-pub decode-values : (payload : List ℕ) {x : StringsReply} {b n : ℕ} → x ≡ reply.Strings b n → stringsReplyOf x ≡ mapResult countsOf (decodePayload payload) → 2 * n < 2 ^ 64
+pub decode-values : (payload : List ℕ) {x : StringsReply} {b n : ℕ} → x ≡ reply.Strings b n → stringsReplyOf x ≡ mapResult sizeOf (decodePayload payload) → 2 * n < 2 ^ 64
 decode-values payload g e =
     let c = counts-are (decodePayload payload) (reply-is stringsReplyOf e g) in
     omega (arith, c .2, payload-most payload (c .0) .1)

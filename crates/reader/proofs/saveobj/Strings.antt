@@ -25,8 +25,8 @@ use Rattle.text.proofs.TestLaws.{and-is, within-is}
 use Rattle.writer.specs.Spans.{isSome, joined, spansFrom}
 use Rattle.writer.proofs.LayoutLaws.{joined-cons, length-spans}
 use Rattle.writer.proofs.SpanLaws.{counted-some, counted-none}
-use Rattle.reader.specs.Saveobj.{unitCount, unitsBefore, storedUnits, storedStrings, checkStrings}
-use Rattle.reader.specs.Replies.{countsOf}
+use Rattle.reader.specs.Saveobj.{unitCount, unitsBefore, storedUnits, storedStrings, checkPairing}
+use Rattle.reader.specs.Replies.{sizeOf}
 use Rattle.reader.specs.Stages.Saveobj.{UnitsChecked, StringsFit, WritesStrings}
 use Rattle.reader.specs.Units.{unitAt, unitsIn}
 use Rattle.reader.specs.Stages.Units.{UnitsInside, UnitsFit}
@@ -139,8 +139,8 @@ module _ (payload : List ℕ) (base n : ℕ) where
       text = decoding.measure-start (reads-units payload (base + n) (unitsBefore payload base i) (unitCount payload base i));
     }
 
-  pub measure-last : {bytes k i : ℕ} → Measuring payload base n bytes k i → n ≤ i → ok (record { bytes = bytes; strings = n }) ≡ mapResult countsOf (checkStrings payload base n)
-  unfolding checkStrings flatMap
+  pub measure-last : {bytes k i : ℕ} → Measuring payload base n bytes k i → n ≤ i → ok (record { bytes = bytes; strings = n }) ≡ mapResult sizeOf (checkPairing payload base n)
+  unfolding checkPairing flatMap
   measure-last {bytes} {k} {i} m h =
       let b : bytes ≡ length (joined (storedStrings payload base n 0 n)) =
       omega (arith, m .sized, ap (λ (ss : List (List ℕ)). length (joined ss)) (left-none payload base n h)) in
@@ -180,8 +180,8 @@ module _ {payload : List ℕ} {base n bytes k i end : ℕ} (w : Within payload b
       text = decoding.measure-size (w .text) (omega (arith, many, inside)) s refl (z, f);
     }
 
-    stops : Unpaired ≡ unitStepAt us (w .j) → error (record { number = 29; place = i }) ≡ mapResult countsOf (checkStrings payload base n)
-    unfolding checkStrings
+    stops : Unpaired ≡ unitStepAt us (w .j) → error (record { number = 29; place = i }) ≡ mapResult sizeOf (checkPairing payload base n)
+    unfolding checkPairing
     stops s =
         let f = counted-none (textOf us) (decoding.measure-stop (w .text) (omega (arith, many, inside)) s refl) in
         rw (checks-stop 29 (isPaired payload base n) 0 n (w .strings .checks) (w .here) (ap isSome f))
@@ -207,7 +207,7 @@ module _ {payload : List ℕ} {base n bytes k i end : ℕ} (w : Within payload b
           surrogate : isSurrogate u ≡ true
           surrogate = sym g ∙ not-false r t
 
-          pub measure-alone : k + 1 ≡ end → error (record { number = 29; place = i }) ≡ mapResult countsOf (checkStrings payload base n)
+          pub measure-alone : k + 1 ≡ end → error (record { number = 29; place = i }) ≡ mapResult sizeOf (checkPairing payload base n)
           measure-alone h =
               stops (step-last payload (base + n) (unitsBefore payload base i) (unitCount payload base i) (w .j) inside is-unit surrogate (omega (arith, w .at, w .last)))
 
@@ -233,7 +233,7 @@ module _ {payload : List ℕ} {base n bytes k i end : ℕ} (w : Within payload b
                   step-pair payload (base + n) (unitsBefore payload base i) (unitCount payload base i) (w .j) inside is-unit surrogate two is-next h in
                   goes s (size-4 (pairValue u v) (omega arith)) (omega arith) (omega arith)
 
-              pub measure-unpaired : not p ≡ true → error (record { number = 29; place = i }) ≡ mapResult countsOf (checkStrings payload base n)
+              pub measure-unpaired : not p ≡ true → error (record { number = 29; place = i }) ≡ mapResult sizeOf (checkPairing payload base n)
               measure-unpaired y =
                   stops
                   (step-unpaired payload (base + n) (unitsBefore payload base i) (unitCount payload base i) (w .j) inside is-unit surrogate two is-next (sym q ∙ not-true p y))

@@ -30,7 +30,7 @@ use Rattle.reader.specs.Stages.Find.{firstIndex}
 use Rattle.reader.specs.Opening.{opened}
 use Rattle.reader.specs.Stages.Opening.{Opens}
 use Rattle.reader.specs.Queries.{checkObject, objectRecord}
-use Rattle.reader.specs.Replies.{parseReplyOf, countsOf, DecodesStrings}
+use Rattle.reader.specs.Replies.{parseReplyOf, sizeOf, DecodesStrings}
 use Rattle.reader.specs.Saveobj.{decodePayload, intoStrings}
 use Rattle.reader.specs.Wire.{tripleAt}
 use Rattle.reader.specs.declared.cells.CellReply.{CellReply}
@@ -192,7 +192,7 @@ unfolding flatMap
 empty-anywhere text {spans} {spans'} {r} d =
     let k : intoStrings oneEmpty (length text) (length spans) ≡ intoStrings oneEmpty 0 (length spans) = simp (le-leb 0 (length text) (omega arith)) in
     record {
-      reply = d .reply ∙ ap (mapResult countsOf) (sym k);
+      reply = d .reply ∙ ap (mapResult sizeOf) (sym k);
       text-after = rw k (either (leb 2 (length spans)) (λ e. simp e) (λ e. simp e));
       spans-after = d .spans-after ∙ ap (λ (n : Result (List (List ℕ))). overwritten (spansFrom 0) n spans) (sym k);
     }

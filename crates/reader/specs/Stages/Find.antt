@@ -9,7 +9,7 @@ use lib.ListN.{getD, length}
 use Rattle.text.specs.Buffer.{same}
 use Rattle.reader.specs.Objects.{triplesFrom}
 use Rattle.reader.specs.Queries.{shown}
-use Rattle.reader.specs.Stages.Names.{Standing}
+use Rattle.reader.specs.Stages.Names.{PieceBegins}
 use Rattle.reader.specs.Stages.Opening.{Opens}
 use Rattle.reader.specs.declared.file_wrapper.FileWrapper.{FileWrapper}
 use Rattle.reader.specs.declared.find.Looked.{Looked}
@@ -43,24 +43,24 @@ pub record ToNames (b : List ℕ) (w : FileWrapper) (first end start : ℕ) : Ty
   pub order : first ≤ end
   pub size : end ≤ first + 4096
   pub few : end ≤ w .names + 1
-  pub heap : Standing b (w .offsets .o0) first start
+  pub heap : PieceBegins b (w .offsets .o0) first start
 
 -- whether name x is wanted, and where the next one begins
-pub record Looks (b : List ℕ) (w : FileWrapper) (wanted : List ℕ) (x : ℕ) (l : Looked) : Type 0 where
+pub record ComparesName (b : List ℕ) (w : FileWrapper) (wanted : List ℕ) (x : ℕ) (l : Looked) : Type 0 where
   pub is : l .shown ≡ same (shown b w x) wanted
-  pub heap : Standing b (w .offsets .o0) (x + 1) (l .next)
+  pub heap : PieceBegins b (w .offsets .o0) (x + 1) (l .next)
 
 -- the flags of names first up to end, whether there is one, and where name end begins
-pub record Marks (b : List ℕ) (w : FileWrapper) (wanted : List ℕ) (first end : ℕ) (flags : List Bool) (m : Looked) : Type 0 where
+pub record FlagsNames (b : List ℕ) (w : FileWrapper) (wanted : List ℕ) (first end : ℕ) (flags : List Bool) (m : Looked) : Type 0 where
   pub order : first ≤ end
   pub size : length flags ≡ 4096
   pub is : (x : ℕ) → flagged flags first end x ≡ shownIn b w wanted first end x
   pub none : m .shown ≡ false → (x : ℕ) → shownIn b w wanted first end x ≡ false
-  pub heap : Standing b (w .offsets .o0) end (m .next)
+  pub heap : PieceBegins b (w .offsets .o0) end (m .next)
 
 -- more names have been looked at, and best has moved to the first triple before it that has a wanted one of them
-pub record Advances (b : List ℕ) (w : FileWrapper) (i : ℕ) (wanted : List ℕ) (from to : Walk) : Type 0 where
+pub record ScansNames (b : List ℕ) (w : FileWrapper) (i : ℕ) (wanted : List ℕ) (from to : Walk) : Type 0 where
   pub more : from .name < to .name
   pub few : to .name ≤ w .names + 1
-  pub heap : Standing b (w .offsets .o0) (to .name) (to .start)
+  pub heap : PieceBegins b (w .offsets .o0) (to .name) (to .start)
   pub is : to .best ≡ firstOf (shownIn b w wanted (from .name) (to .name)) b i (from .best)

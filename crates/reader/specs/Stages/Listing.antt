@@ -26,6 +26,8 @@ use Rattle.reader.specs.declared.listing.Step.{Step}
 use Rattle.reader.specs.declared.objects.BlockId.{BlockId}
 use Rattle.reader.specs.declared.objects.ObjectRow.{ObjectRow}
 
+-- ---- the checks
+
 -- check 10 for n objects from id on
 abbrev pub checkObjects : List ℕ → FileWrapper → ℕ → ℕ → Result (Unit {0})
 checkObjects b w id n = objectsFrom b w id n >> ok tt
@@ -38,6 +40,8 @@ objectsCheckOf (objects-check.Failed e) = error (failureOf e)
 -- the rows of a blob whose listing is accepted
 abbrev pub allObjects : List ℕ → List ObjectRow
 allObjects b = valuesOf (objectRows b)
+
+-- ---- the index of blocks
 
 -- both regions' entries have their places in the index
 pub record PlanFor (w : FileWrapper) (p : Plan) : Type 0 where
@@ -57,12 +61,12 @@ abbrev pub firstEntry : Plan → ℕ → ℕ
 firstEntry p g = cond (eqb g 0) 0 (p .normalobj)
 
 -- entry j of region g
-unfoldable pub entry : List ℕ → Plan → ℕ → ℕ → ℕ
-entry index p g j = getD index (firstEntry p g + j) 0
+unfoldable pub indexEntry : List ℕ → Plan → ℕ → ℕ → ℕ
+indexEntry index p g j = getD index (firstEntry p g + j) 0
 
 -- it is the byte of block j * stride
 abbrev pub IsEntry : List ℕ → List ℕ → Plan → ℕ → ℕ → Type 0
-IsEntry b index p g j = entry index p g j ≡ blockAt 12 b (regionStart (p .w) g) (j * p .stride)
+IsEntry b index p g j = indexEntry index p g j ≡ blockAt 12 b (regionStart (p .w) g) (j * p .stride)
 
 -- the entries of region g are filled, those before them kept
 pub record Fills (b : List ℕ) (p : Plan) (g : ℕ) (index index' : List ℕ) : Type 0 where
@@ -74,6 +78,8 @@ pub record Fills (b : List ℕ) (p : Plan) (g : ℕ) (index index' : List ℕ) :
 pub record Indexes (b : List ℕ) (p : Plan) (index : List ℕ) : Type 0 where
   pub size : length index ≡ 8192
   pub entries : (g j : ℕ) → j * p .stride < regionBlocks (p .w) g → IsEntry b index p g j
+
+-- ---- cursors
 
 -- a cursor stands at the block that it names, of the region that begins at start
 pub record IsCursor (b : List ℕ) (start : ℕ) (c : Cursor) : Type 0 where
@@ -108,7 +114,7 @@ pub record AreCursors (b : List ℕ) (w : FileWrapper) (cs : Cursors) : Type 0 w
   pub normalobj : IsCursor b (w .offsets .o3) (cs .normalobj)
 
 -- the entry before a block of its region lies in the index
-pub record Nears (p : Plan) (k : BlockId) : Type 0 where
+pub record EntryInside (p : Plan) (k : BlockId) : Type 0 where
   pub least : 1 ≤ p .stride
   pub room : firstEntry p (k .region) + k .id / p .stride < 8192
 
@@ -116,7 +122,7 @@ pub record Nears (p : Plan) (k : BlockId) : Type 0 where
 pub record Nearest (index : List ℕ) (p : Plan) (cs : Cursors) (k : BlockId) (c : Cursor) : Type 0 where
   pub behind : c .block ≤ k .id
   pub is : (b : List ℕ) (start : ℕ) → IsCursor b start (cursorOf cs (k .region))
-      → entry index p (k .region) (k .id / p .stride) ≡ blockAt 12 b start (k .id / p .stride * p .stride) → IsCursor b start c
+      → indexEntry index p (k .region) (k .id / p .stride) ≡ blockAt 12 b start (k .id / p .stride * p .stride) → IsCursor b start c
 
 -- the blob's region has this block, and index and cursors are the blob's
 pub record ToBlock (b index : List ℕ) (p : Plan) (cs : Cursors) (k : BlockId) : Type 0 where
@@ -124,6 +130,8 @@ pub record ToBlock (b index : List ℕ) (p : Plan) (cs : Cursors) (k : BlockId) 
   pub indexes : Indexes b p index
   pub cursors : AreCursors b (p .w) cs
   pub below : k .id < regionBlocks (p .w) (k .region)
+
+-- ---- the listing
 
 -- how many objects a listing has, or the refusal
 abbrev pub listingReplyOf : Listing → Result ℕ
@@ -146,7 +154,7 @@ IsListing b (listing.Objects p n) = Listable b p × (n ≡ p .w .records - 1)
 IsListing b (listing.Refused e) = Unit {0}
 
 -- the listing of a blob for so many rows
-pub record Lists (b : List ℕ) (room : ℕ) (x : Listing) : Type 0 where
+pub record ListingFor (b : List ℕ) (room : ℕ) (x : Listing) : Type 0 where
   pub reply : listingReplyOf x ≡ mapResult length (intoOutput (objectRows b) room)
   pub is : IsListing b x
 
@@ -156,9 +164,9 @@ HasIndex b (listing.Objects p n) index = Indexes b p index
 HasIndex b (listing.Refused e) index = Unit {0}
 
 -- the first step of a listing; a refused one has none
-abbrev pub Starts : Listing → Step → Type 0
-Starts (listing.Objects p n) s = (s .plan ≡ p) × (s .cursors ≡ firstCursors (p .w))
-Starts (listing.Refused e) s = Unit {0}
+abbrev pub FirstStep : Listing → Step → Type 0
+FirstStep (listing.Objects p n) s = (s .plan ≡ p) × (s .cursors ≡ firstCursors (p .w))
+FirstStep (listing.Refused e) s = Unit {0}
 
 -- object i is one of the blob's, and the step and the index are the blob's
 pub record ToNext (b index : List ℕ) (s : Step) (i : ℕ) : Type 0 where

@@ -55,13 +55,13 @@ pub record HasName (b : List ℕ) (end index : ℕ) : Type 0 where
   pub most : index ≤ length (heapPieces b end)
 
 -- piece x, where there is one, begins at start; for the empty name, 0, piece 1
-pub record Standing (b : List ℕ) (end x start : ℕ) : Type 0 where
+pub record PieceBegins (b : List ℕ) (end x start : ℕ) : Type 0 where
   pub rest : piecesFrom b end start ≡ drop (x - 1) (heapPieces b end)
 
 -- there is piece index, and it begins at i
-pub record Starts (b : List ℕ) (end index i : ℕ) : Type 0 where
+pub record PieceAt (b : List ℕ) (end index i : ℕ) : Type 0 where
   pub inside : i ≤ end
-  pub stands : Standing b end index i
+  pub stands : PieceBegins b end index i
 
 -- the bytes of a piece
 abbrev pub pieceBytes : List ℕ → Piece → List ℕ

@@ -33,11 +33,11 @@ pub record IsBlock (b : List ℕ) (w : FileWrapper) (r : ObjectRecord) (n at : �
   pub inside : at + 4 + 12 * n ≤ length b
 
 -- what the reply for an object carries beside its row
-abbrev pub Stands : List ℕ → FileWrapper → ObjectRecord → ObjectReply → Type 0
-Stands b w r (object.Object row at) = IsBlock b w r (row .«property_count») at
-Stands b w r (object.Error e) = Unit {0}
+abbrev pub CarriesBlock : List ℕ → FileWrapper → ObjectRecord → ObjectReply → Type 0
+CarriesBlock b w r (object.Object row at) = IsBlock b w r (row .«property_count») at
+CarriesBlock b w r (object.Error e) = Unit {0}
 
 -- what reading an object by its record replies, and where its block stands
 pub record ReadsObject (b : List ℕ) (w : FileWrapper) (r : ObjectRecord) (x : ObjectReply) : Type 0 where
   pub reply : objectReplyOf x ≡ recordRow b w r
-  pub stands : Stands b w r x
+  pub stands : CarriesBlock b w r x

@@ -10,7 +10,7 @@ use Rattle.text.specs.Errors.{failureOf}
 use Rattle.text.specs.Result.{Result, ok, error, _>>_, _>>=_, valuesOf}
 use Rattle.text.specs.Utf16.{textOf, theText}
 use Rattle.writer.specs.Spans.{joined, spansFrom}
-use Rattle.reader.specs.Saveobj.{Header, unitsBefore, checkHeader, checkLengths, storedUnits, storedStrings}
+use Rattle.reader.specs.Saveobj.{Header, unitsBefore, checkHeader, checkUnitCount, storedUnits, storedStrings}
 use Rattle.reader.specs.declared.saveobj.HeaderReply.{HeaderReply}
 use Rattle.reader.specs.declared.saveobj.HeaderReply.the-variants as header
 use Rattle.reader.specs.declared.saveobj.LayoutReply.{LayoutReply}
@@ -18,6 +18,8 @@ use Rattle.reader.specs.declared.saveobj.LayoutReply.the-variants as lay
 use Rattle.reader.specs.declared.saveobj.NumberReply.{NumberReply}
 use Rattle.reader.specs.declared.saveobj.NumberReply.the-variants as number
 use Rattle.reader.specs.declared.saveobj.Position.{Position}
+
+-- ---- replies
 
 -- a number, or the refusal
 abbrev pub numberOf : NumberReply → Result ℕ
@@ -40,11 +42,13 @@ abbrev pub layoutOf : LayoutReply → Result Layout
 layoutOf (layout.Layout base n units) = ok (record { base = base; strings = n; units = units })
 layoutOf (layout.Error e) = error (failureOf e)
 
+-- ---- stages
+
 -- 22 to 28
 unfoldable pub checkLayout : List ℕ → Result Layout
 checkLayout payload = do
   header ← checkHeader payload
-  checkLengths payload (header .base) (header .strings)
+  checkUnitCount payload (header .base) (header .strings)
   ok (record { base = header .base; strings = header .strings; units = unitsBefore payload (header .base) (header .strings) })
 
 -- 22 to 28 hold of a payload of n strings whose lengths begin at word base

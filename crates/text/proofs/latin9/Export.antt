@@ -13,7 +13,7 @@ use lib.ListN.{length, getD, set}
 use Rattle.text.specs.Buffer.{put, Places}
 use Rattle.text.specs.Errors.{failureOf}
 use Rattle.text.specs.Latin9.{codePoint, byteOf, bytesFrom, latin9Bytes, exportLatin9}
-use Rattle.text.specs.Stages.Latin9.{byteReplyOf, sizeBy, Stands, BytesFit}
+use Rattle.text.specs.Stages.Latin9.{byteReplyOf, sizeBy, CharacterAt, BytesFit}
 use Rattle.text.specs.Replies.{lengthReplyOf, Writes}
 use Rattle.text.specs.Result.{Result, ok, error, mapResult, orError, valuesOf, _>>=_}
 use Rattle.text.specs.Stages.Utf8.{wholeLength, isText}
@@ -61,7 +61,7 @@ listed-byte b h e = sym (ap byteOf e ∙ byte-back b h)
 
 -- ---- the returns of `byte_at`
 
-module _ {t : List ℕ} {i n : ℕ} (s : Stands t i n) where
+module _ {t : List ℕ} {i n : ℕ} (s : CharacterAt t i n) where
   module _ {m : Option ℕ} where
     pub two-bytes : n ≡ 2 → m ≡ byteOf (getD t i 0 % 32 * 64 + getD t (i + 1) 0 % 64) → m ≡ byteOf (valueAt t i n)
     unfolding valueAt
@@ -126,7 +126,7 @@ text-not (some vs) e = not-both refl e
 text-not none e = refl
 
 -- a whole sequence that does not begin with an ASCII byte has two bytes at least
-stands-whole : (t : List ℕ) (i : ℕ) {r : ℕ} → i < length t → r ≡ wholeLength t i → (r ≡ 0 → ⊥) → 128 ≤ getD t i 0 → Stands t i r
+stands-whole : (t : List ℕ) (i : ℕ) {r : ℕ} → i < length t → r ≡ wholeLength t i → (r ≡ 0 → ⊥) → 128 ≤ getD t i 0 → CharacterAt t i r
 unfolding wholeAt
 stands-whole t i {r} h e z l =
     let w = whole-is t i h e z in
@@ -203,7 +203,7 @@ module _ (t : List ℕ) where
       measure-broken z = sym (rw (parts-ill-formed t i (broken-here t i h (sym e ∙ z))) at (m .so-far))
 
       module _ (l : 128 ≤ getD t i 0) (some : r ≡ 0 → ⊥) where
-        pub measure-stands : Stands t i r
+        pub measure-stands : CharacterAt t i r
         measure-stands = stands-whole t i h e some l
 
         pub measure-less : length t - (i + r) < length t - i
@@ -334,7 +334,7 @@ module _ {t d₀ d : List ℕ} {i o : ℕ} (w : Writing t d₀ d i o) where
       lead-length : sequenceLength (getD t i 0) ≡ r
       lead-length = length-by t i reads small l ∙ sym e
 
-      pub write-stands : Stands t i r
+      pub write-stands : CharacterAt t i r
       write-stands =
           let g = starts t i (here .value) (here .next) reads in
           let n : here .next ≡ i + r = next-after t i (here .value) (here .next) reads r lead-length (omega (arith, lead-length)) in

@@ -29,7 +29,7 @@ abbrev pub sizeBy : ℕ → ℕ
 sizeBy lead = cond (ltb lead 0xE0) 2 3
 
 -- a character of n bytes, two at least, stands at i
-pub record Stands (s : List ℕ) (i n : ℕ) : Type 0 where
+pub record CharacterAt (s : List ℕ) (i n : ℕ) : Type 0 where
   pub step : stepAt s i ≡ Scalar (valueAt s i n) (i + n)
   pub least : 2 ≤ n
   pub inside : i + n ≤ length s

@@ -1,7 +1,7 @@
 -- `reader::find::mark_names` meets its contract.
 -- Assumes nothing.
 use Prim.Native.Nat.{_-_, _≤_}
-use Rattle.reader.specs.Stages.Find.{Marks}
+use Rattle.reader.specs.Stages.Find.{FlagsNames}
 use Rattle.reader.proofs.find.Laws.{marks-start, marks-name, marks-turn, marks-last}
 use borrow.Author.Needs.{needs}
 use Rattle.reader.proofs.find.mark_names.Statement.{statement}
@@ -9,7 +9,7 @@ use Rattle.reader.proofs.find.mark_names.Tie as tie
 
 abbrev Inv-loop : tie.InvT-loop
 Inv-loop blob w first end start wanted flags₀ shown₀ next₀ x₀ flags shown next x =
-    (x ≤ end) × Marks blob w wanted first x flags (record { shown = shown; next = next })
+    (x ≤ end) × FlagsNames blob w wanted first x flags (record { shown = shown; next = next })
 
 abbrev μ-loop : tie.MeasureT-loop
 μ-loop blob w first end start wanted flags₀ shown₀ next₀ x₀ flags shown next x = end - x

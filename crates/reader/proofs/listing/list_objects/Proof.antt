@@ -54,7 +54,7 @@ use denote.Triple.Spec.{Meets, tripleOf}
 use denote.Triple.Table.{entered, cited}
 use denote.Triple.Walked.{says, Stays, stay-none-slice, stay-slice, walkOf, goes-none-slice, goes-slice, Walks, ends-at, walked, walk-meets}
 use denote.Exit.{yes}
-use Rattle.reader.specs.Stages.Listing.{allObjects, listingReplyOf, countOf, IsListing, Lists, HasIndex, Starts, ToNext, NextObject}
+use Rattle.reader.specs.Stages.Listing.{allObjects, listingReplyOf, countOf, IsListing, ListingFor, HasIndex, FirstStep, ToNext, NextObject}
 use Rattle.reader.specs.Objects.{objectRows, noRow}
 use Rattle.reader.specs.Replies.{WritesObjects}
 use Rattle.reader.specs.declared.listing.Listing.{Listing}
@@ -243,8 +243,8 @@ module _ {M : Type 1} (𝓤 : URA M) (H : Heap 𝓤) (A : Atoms 𝓤) (W : Given
       nothing ! $ owned ! usize (Is usize) (uint-makes 𝓤 H A W w64) (length ys) _ (refl, fits) $ fjoin ! $ move ! (1 ∷ 0 ∷ []) $ fjoin ! $
       move ! (2 ∷ 0 ∷ []) $ join ! $ nothing ! $ move ! (1 ∷ 0 ∷ []) $ join ! $ frame ! $ done !
 
-  said-start : (r : Listing) → ent 𝓤 (ensured 𝓤 H A start.ended (start.clauses 𝓤 H A mem run) (κ, tt) (d, (length ys, tt)) tt r) (fact 𝓤 (Lists bs (length ys) r))
-  said-start r = exE 𝓤 _ (λ ws. snd∗ 𝓤 (sem 𝓤 H A (lasts start.ended (κ, tt) (d, (length ys, tt)) ws)) (fact 𝓤 (Lists bs (length ys) r)))
+  said-start : (r : Listing) → ent 𝓤 (ensured 𝓤 H A start.ended (start.clauses 𝓤 H A mem run) (κ, tt) (d, (length ys, tt)) tt r) (fact 𝓤 (ListingFor bs (length ys) r))
+  said-start r = exE 𝓤 _ (λ ws. snd∗ 𝓤 (sem 𝓤 H A (lasts start.ended (κ, tt) (d, (length ys, tt)) ws)) (fact 𝓤 (ListingFor bs (length ys) r)))
 
   abbrev to-index : Listing → Val → Index 𝓤 H A mem run .Ghost
   to-index y u = (((κ, tt), (q, tt), tt, (d, (y, tt)), (v ∷ [], (u ∷ [], tt))), tt)
@@ -309,8 +309,8 @@ module _ {M : Type 1} (𝓤 : URA M) (H : Heap 𝓤) (A : Atoms 𝓤) (W : Given
   ask-first-step y u is =
       qed W (‵ ftrue ∷ []) ∵ nothing ! $ owned ! X.the-row (Is X.the-row) (EL.makes X.the-type X′.the-plain 𝓤 H A) y _ is $ fjoin ! $ move ! (1 ∷ 0 ∷ []) $ join ! $ frame ! $ done !
 
-  said-first-step : (y : Listing) (r : Step) → ent 𝓤 (ensured 𝓤 H A first-step.ended (first-step.clauses 𝓤 H A mem run) tt (y, tt) tt r) (fact 𝓤 (Starts y r))
-  said-first-step y r = exE 𝓤 _ (λ ws. snd∗ 𝓤 (sem 𝓤 H A (lasts first-step.ended tt (y, tt) ws)) (fact 𝓤 (Starts y r)))
+  said-first-step : (y : Listing) (r : Step) → ent 𝓤 (ensured 𝓤 H A first-step.ended (first-step.clauses 𝓤 H A mem run) tt (y, tt) tt r) (fact 𝓤 (FirstStep y r))
+  said-first-step y r = exE 𝓤 _ (λ ws. snd∗ 𝓤 (sem 𝓤 H A (lasts first-step.ended tt (y, tt) ws)) (fact 𝓤 (FirstStep y r)))
 
   abbrev to-last : Step → Val → Last 𝓤 H A mem run .Ghost
   to-last y u = ((tt, tt, tt, (y, tt), (u ∷ [], tt)), tt)
@@ -387,7 +387,7 @@ module _ {M : Type 1} (𝓤 : URA M) (H : Heap 𝓤) (A : Atoms 𝓤) (W : Given
       En = env R′.mir X′.mir arrTy S′.mir T′.mir l₀ l₁ l₂ l₃ l₄ l₅ l₆ l₇ l₈ l₉ l₁₀ l₁₁ l₁₂ l₁₃ l₁₄
 
       -- ---- the loop: n rows are to be written, the index z is lent for ν under δ, and u₃ is the listing's machine value
-      module _ (y : Listing) (u₃ : Val) (lists : Lists bs (length ys) y) (is₃ : Is X.the-row y (u₃ ∷ [])) (z : List ℕ) (u₁₀ : Val) (has : HasIndex bs y z) (ν : ℕ) (δ : GName) where
+      module _ (y : Listing) (u₃ : Val) (lists : ListingFor bs (length ys) y) (is₃ : Is X.the-row y (u₃ ∷ [])) (z : List ℕ) (u₁₀ : Val) (has : HasIndex bs y z) (ν : ℕ) (δ : GName) where
         -- the loan, the open borrow of the rows, and the locals
         abbrev Lending : Item 𝓤 → Item 𝓤 → Item 𝓤 → List (Item 𝓤)
         Lending c₆ c₇ c₈ = Toks ν ∷ ‵ Own ∷ ‵ (Ix z l₄ ν δ) ∷ ‵ (flent (ν ∷ []) (partAt Arr fullShare z l₄ 0))
@@ -532,7 +532,7 @@ module _ {M : Type 1} (𝓤 : URA M) (H : Heap 𝓤) (A : Atoms 𝓤) (W : Given
             nothing ! $ use1 W (raw (First 𝓤 H A mem run .pre (to-first-step y u₃))) (ask-first-step y u₃ is₃) $
             calls-at ! fm (First 𝓤 H A mem run) known-first-step (to-first-step y u₃) (and-then ! (load ! (from ! (stop !)) (look ! 30 refl)) (no-more !)) (λ u.
             use1 W (later (some (λ (r : Step). (‵ ftrue ⊛ ‵ (S.the-row .own r (u ∷ []))) ⊛ raw (ensured 𝓤 H A first-step.ended (first-step.clauses 𝓤 H A mem run) tt (y, tt) tt r)))) (id⊢ 𝓤 _) $ await ! tt $ pick ! (λ s₀.
-            split ! $ move ! (1 ∷ []) $ use1 W (raw (fact 𝓤 (Starts y s₀))) (said-first-step y s₀) $ heard ! (Starts y s₀) (λ begins. split ! $ drop ! $
+            split ! $ move ! (1 ∷ []) $ use1 W (raw (fact 𝓤 (FirstStep y s₀))) (said-first-step y s₀) $ heard ! (FirstStep y s₀) (λ begins. split ! $ drop ! $
             facts ! S.the-row (Is S.the-row) (shows 𝓤 H A S.the-row) s₀ (u ∷ []) (λ is.
             land ! (from ! (stop !)) (init ! 22 refl (LL.lawful S.the-type S′.the-laws 𝓤 H A W .typed s₀ _ is .0)) $
             assigns ! (of-opd ! (lit ! tt)) (from ! (stop !)) (init ! 20 refl (tt, record { fits = lit< tt })) $
@@ -541,7 +541,7 @@ module _ {M : Type 1} (𝓤 : URA M) (H : Heap 𝓤) (A : Atoms 𝓤) (W : Given
             (record { i = 0; s = s₀; u = u; bound = zero-le; steps = listed-first bs y s₀ begins; is = is })))))))))
 
       -- the index is made, and lent for a lifetime ν
-      indexes : (y : Listing) (u₃ : Val) → Lists bs (length ys) y → Is X.the-row y (u₃ ∷ [])
+      indexes : (y : Listing) (u₃ : Val) → ListingFor bs (length ys) y → Is X.the-row y (u₃ ∷ [])
           → Sq W (Before R′.mir X′.mir arrTy S′.mir T′.mir l₀ l₁ l₂ l₃ l₄ l₅ l₆ l₇ l₈ l₉ l₁₀ l₁₁ l₁₂ l₁₃ l₁₄ (‵ (fat fullShare X′.mir l₃ 0 u₃)) (‵ (froom arrTy l₄ 0)) (‵ (fat fullShare word l₉ 0 (vint w64 (length ys))))) (runs C Λ En mir.t-3 (atRet En Post))
       indexes y u₃ lists is₃ =
           use2 W (raw (Index 𝓤 H A mem run .pre (to-index y u₃)) ⊛ ‵ Own) (ask-index y u₃ is₃ (lists .is)) $ split ! $
@@ -564,7 +564,7 @@ module _ {M : Type 1} (𝓤 : URA M) (H : Heap 𝓤) (A : Atoms 𝓤) (W : Given
           use2 W (raw (Start 𝓤 H A mem run .pre to-start) ⊛ ‵ Own) (ask-start (room .0)) $ split ! $
           calls-at ! fm (Start 𝓤 H A mem run) known-start to-start (and-then ! (load ! (from ! (stop !)) (look ! 32 refl)) (and-then ! (load ! (from ! (stop !)) (look ! 16 refl)) (no-more !))) (λ u.
           use1 W (later (some (λ (r : Listing). (Tok ⊛ ‵ (X.the-row .own r (u ∷ []))) ⊛ raw (ensured 𝓤 H A start.ended (start.clauses 𝓤 H A mem run) (κ, tt) (d, (length ys, tt)) tt r)))) (id⊢ 𝓤 _) $ await ! tt $ pick ! (λ y.
-          split ! $ move ! (1 ∷ []) $ use1 W (raw (fact 𝓤 (Lists bs (length ys) y))) (said-start y) $ heard ! (Lists bs (length ys) y) (λ lists. split ! $ move ! (1 ∷ []) $
+          split ! $ move ! (1 ∷ []) $ use1 W (raw (fact 𝓤 (ListingFor bs (length ys) y))) (said-start y) $ heard ! (ListingFor bs (length ys) y) (λ lists. split ! $ move ! (1 ∷ []) $
           facts ! X.the-row (Is X.the-row) (shows 𝓤 H A X.the-row) y (u ∷ []) (λ is.
           land ! (from ! (stop !)) (init ! 28 refl (EL.lawful X.the-type X′.the-laws 𝓤 H A W tt .typed y _ is .0)) $
           indexes y u lists is))))

@@ -1,12 +1,12 @@
--- `reader::saveobj::measure_payload` meets its contract.
+-- `reader::saveobj::measure_saveobj` meets its contract.
 -- Assumes nothing.
 use borrow.Author.Needs.{needs}
 use Rattle.reader.proofs.saveobj.Payload.{measure-refused, measure-checked, measure-strings}
-use Rattle.reader.proofs.saveobj.measure_payload.Statement.{statement}
-use Rattle.reader.proofs.saveobj.measure_payload.Tie as tie
+use Rattle.reader.proofs.saveobj.measure_saveobj.Statement.{statement}
+use Rattle.reader.proofs.saveobj.measure_saveobj.Tie as tie
 
-pub measure-payload-spec : {M : Type 1} → statement M
-measure-payload-spec =
+pub measure-saveobj-spec : {M : Type 1} → statement M
+measure-saveobj-spec =
     tie.close
     (tie.spec
     (λ c κs. search needs)
