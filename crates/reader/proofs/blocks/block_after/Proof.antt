@@ -15,4 +15,13 @@ abbrev μ-loop : tie.MeasureT-loop
 pub block-after-spec : {M : Type 1} → statement M
 block-after-spec =
     tie.close
-    (tie.spec Inv-loop μ-loop (λ c. search (walk-start, needs)) (λ c κs. search (walk-read, needs)) (λ c κs. search (walk-round, needs)) (λ c. search needs) (λ c. search needs) (λ c. search (walk-turn, needs)) (λ c. search (walk-last, needs)))
+    (tie.spec
+    Inv-loop
+    μ-loop
+    (λ c. search (walk-start, needs))
+    (λ c κs. search (walk-read, needs))
+    (λ c κs. search (walk-round, needs))
+    (λ c. search needs)
+    (λ c. search needs)
+    (λ c. search (walk-turn, needs))
+    (λ c. search (walk-last, needs)))

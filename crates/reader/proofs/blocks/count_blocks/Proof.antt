@@ -15,4 +15,15 @@ abbrev μ-loop : tie.MeasureT-loop
 pub count-blocks-spec : {M : Type 1} → statement M
 count-blocks-spec =
     tie.close
-    (tie.spec Inv-loop μ-loop (λ c. search (count-start, needs)) (λ c κs. search needs) (λ c κs. search needs) (λ c. search (count-stop, needs)) (λ c κs. search needs) (λ c. search needs) (λ c. search needs) (λ c. search (count-turn, needs)) (λ c. search (count-last, needs)))
+    (tie.spec
+    Inv-loop
+    μ-loop
+    (λ c. search (count-start, needs))
+    (λ c κs. search needs)
+    (λ c κs. search needs)
+    (λ c. search (count-stop, needs))
+    (λ c κs. search needs)
+    (λ c. search needs)
+    (λ c. search needs)
+    (λ c. search (count-turn, needs))
+    (λ c. search (count-last, needs)))

@@ -8,4 +8,10 @@ use Rattle.reader.proofs.classes.check_string_class.Tie as tie
 pub check-string-class-spec : {M : Type 1} → statement M
 check-string-class-spec =
     tie.close
-    (tie.spec (λ c κs. search needs) (λ c. search needs) (λ c κs. search needs) (λ c. search needs) (λ c. search (string-class-entry, needs)) (λ c. search (string-no-class, needs)))
+    (tie.spec
+    (λ c κs. search needs)
+    (λ c. search needs)
+    (λ c κs. search needs)
+    (λ c. search needs)
+    (λ c. search (string-class-entry, needs))
+    (λ c. search (string-no-class, needs)))

@@ -9,4 +9,11 @@ use Rattle.reader.proofs.classes.class_name.Tie as tie
 pub class-name-spec : {M : Type 1} → statement M
 class-name-spec =
     tie.close
-    (tie.spec (λ c κs. search needs) (λ c. search needs) (λ c κs. search (parsed, needs)) (λ c. search needs) (λ c. search needs) (λ c. search (class-written, needs)) (λ c. search (class-refused, needs)))
+    (tie.spec
+    (λ c κs. search needs)
+    (λ c. search needs)
+    (λ c κs. search (parsed, needs))
+    (λ c. search needs)
+    (λ c. search needs)
+    (λ c. search (class-written, needs))
+    (λ c. search (class-refused, needs)))

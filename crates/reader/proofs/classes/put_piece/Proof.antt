@@ -8,4 +8,10 @@ use Rattle.reader.proofs.classes.put_piece.Tie as tie
 pub put-piece-spec : {M : Type 1} → statement M
 put-piece-spec =
     tie.close
-    (tie.spec (λ c. search needs) (λ c. search needs) (λ c. search needs) (λ c κs. search needs) (λ c. search needs) (λ c. search (piece-puts, needs)))
+    (tie.spec
+    (λ c. search needs)
+    (λ c. search needs)
+    (λ c. search needs)
+    (λ c κs. search needs)
+    (λ c. search needs)
+    (λ c. search (piece-puts, needs)))

@@ -8,4 +8,9 @@ use Rattle.reader.proofs.classes.read_class.Tie as tie
 pub read-class-spec : {M : Type 1} → statement M
 read-class-spec =
     tie.close
-    (tie.spec (λ c. search (class-outside, needs)) (λ c. search needs) (λ c. search needs) (λ c κs. search needs) (λ c. search (class-inside, needs)))
+    (tie.spec
+    (λ c. search (class-outside, needs))
+    (λ c. search needs)
+    (λ c. search needs)
+    (λ c κs. search needs)
+    (λ c. search (class-inside, needs)))

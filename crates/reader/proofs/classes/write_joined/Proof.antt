@@ -15,4 +15,15 @@ same-length c = text-same (returns-2 c)
 pub write-joined-spec : {M : Type 1} → statement M
 write-joined-spec =
     tie.close
-    (tie.spec (λ c κs. search needs) (λ c. search needs) (λ c κs. search needs) (λ c. search needs) (λ c. search (joined-short, needs)) (λ c κs. search needs) (λ c. search needs) (λ c. search needs) (λ c κs. search (joined-second, needs)) same-length returns-2)
+    (tie.spec
+    (λ c κs. search needs)
+    (λ c. search needs)
+    (λ c κs. search needs)
+    (λ c. search needs)
+    (λ c. search (joined-short, needs))
+    (λ c κs. search needs)
+    (λ c. search needs)
+    (λ c. search needs)
+    (λ c κs. search (joined-second, needs))
+    same-length
+    returns-2)

@@ -17,4 +17,15 @@ abbrev μ-loop : tie.MeasureT-loop
 pub check-order-spec : {M : Type 1} → statement M
 check-order-spec =
     tie.close
-    (tie.spec Inv-loop μ-loop (λ c. search (order-start, needs)) (λ c. search needs) (λ c κs. search needs) (λ c κs. search needs) (λ c. search (order-stop, needs)) (λ c. search needs) (λ c. search needs) (λ c. search (order-turn, needs)) (λ c. search (order-last, needs)))
+    (tie.spec
+    Inv-loop
+    μ-loop
+    (λ c. search (order-start, needs))
+    (λ c. search needs)
+    (λ c κs. search needs)
+    (λ c κs. search needs)
+    (λ c. search (order-stop, needs))
+    (λ c. search needs)
+    (λ c. search needs)
+    (λ c. search (order-turn, needs))
+    (λ c. search (order-last, needs)))

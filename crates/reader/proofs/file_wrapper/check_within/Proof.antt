@@ -17,4 +17,13 @@ abbrev μ-loop : tie.MeasureT-loop
 pub check-within-spec : {M : Type 1} → statement M
 check-within-spec =
     tie.close
-    (tie.spec Inv-loop μ-loop (λ c. search (within-start, needs)) (λ c κs. search needs) (λ c. search (within-stop, needs)) (λ c. search needs) (λ c. search needs) (λ c. search (within-turn, needs)) (λ c. search (within-last, needs)))
+    (tie.spec
+    Inv-loop
+    μ-loop
+    (λ c. search (within-start, needs))
+    (λ c κs. search needs)
+    (λ c. search (within-stop, needs))
+    (λ c. search needs)
+    (λ c. search needs)
+    (λ c. search (within-turn, needs))
+    (λ c. search (within-last, needs)))

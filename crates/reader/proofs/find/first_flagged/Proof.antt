@@ -16,4 +16,17 @@ abbrev μ-loop : tie.MeasureT-loop
 pub first-flagged-spec : {M : Type 1} → statement M
 first-flagged-spec =
     tie.close
-    (tie.spec Inv-loop μ-loop (λ c. search (pass-start, needs)) (λ c. search needs) (λ c. search needs) (λ c κs. search needs) (λ c. search needs) (λ c κs. search needs) (λ c. search (pass-found, needs)) (λ c. search needs) (λ c. search needs) (λ c. search (pass-turn, needs)) (λ c. search (pass-last, needs)))
+    (tie.spec
+    Inv-loop
+    μ-loop
+    (λ c. search (pass-start, needs))
+    (λ c. search needs)
+    (λ c. search needs)
+    (λ c κs. search needs)
+    (λ c. search needs)
+    (λ c κs. search needs)
+    (λ c. search (pass-found, needs))
+    (λ c. search needs)
+    (λ c. search needs)
+    (λ c. search (pass-turn, needs))
+    (λ c. search (pass-last, needs)))

@@ -15,4 +15,12 @@ abbrev μ-loop : tie.MeasureT-loop
 pub first-named-spec : {M : Type 1} → statement M
 first-named-spec =
     tie.close
-    (tie.spec Inv-loop μ-loop (λ c. search needs) (λ c. search (walk-start, needs)) (λ c κs. search (walk-names, walk-triples, needs)) (λ c. search needs) (λ c. search (walk-turn, needs)) (λ c. search (walk-last, needs)))
+    (tie.spec
+    Inv-loop
+    μ-loop
+    (λ c. search needs)
+    (λ c. search (walk-start, needs))
+    (λ c κs. search (walk-names, walk-triples, needs))
+    (λ c. search needs)
+    (λ c. search (walk-turn, needs))
+    (λ c. search (walk-last, needs)))

@@ -17,4 +17,14 @@ abbrev μ-loop : tie.MeasureT-loop
 pub mark-names-spec : {M : Type 1} → statement M
 mark-names-spec =
     tie.close
-    (tie.spec Inv-loop μ-loop (λ c. search (marks-start, needs)) (λ c κs. search (marks-name, needs)) (λ c. search needs) (λ c. search needs) (λ c. search needs) (λ c. search needs) (λ c. (search needs, search (marks-turn, needs))) (λ c. search (marks-last, needs)))
+    (tie.spec
+    Inv-loop
+    μ-loop
+    (λ c. search (marks-start, needs))
+    (λ c κs. search (marks-name, needs))
+    (λ c. search needs)
+    (λ c. search needs)
+    (λ c. search needs)
+    (λ c. search needs)
+    (λ c. (search needs, search (marks-turn, needs)))
+    (λ c. search (marks-last, needs)))

@@ -15,4 +15,19 @@ abbrev μ-loop : tie.MeasureT-loop
 pub check-objects-spec : {M : Type 1} → statement M
 check-objects-spec =
     tie.close
-    (tie.spec Inv-loop μ-loop (λ c. search (passing-start, needs)) (λ c. search needs) (λ c κs. search needs) (λ c κs. search needs) (λ c. search needs) (λ c. search (passing-stop, needs)) (λ c. search needs) (λ c κs. search needs) (λ c κs. search needs) (λ c. search (passing-fits, needs)) (λ c. search needs) (λ c. search (passing-turn, needs)) (λ c. search (passing-last, needs)))
+    (tie.spec
+    Inv-loop
+    μ-loop
+    (λ c. search (passing-start, needs))
+    (λ c. search needs)
+    (λ c κs. search needs)
+    (λ c κs. search needs)
+    (λ c. search needs)
+    (λ c. search (passing-stop, needs))
+    (λ c. search needs)
+    (λ c κs. search needs)
+    (λ c κs. search needs)
+    (λ c. search (passing-fits, needs))
+    (λ c. search needs)
+    (λ c. search (passing-turn, needs))
+    (λ c. search (passing-last, needs)))

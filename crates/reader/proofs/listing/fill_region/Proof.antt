@@ -15,4 +15,20 @@ abbrev μ-loop : tie.MeasureT-loop
 pub fill-region-spec : {M : Type 1} → statement M
 fill-region-spec =
     tie.close
-    (tie.spec Inv-loop μ-loop (λ c κs. search needs) (λ c κs. search needs) (λ c κs. search needs) (λ c. search (filling-start, needs)) (λ c κs. search (filling-has, needs)) (λ c. search needs) (λ c. search (filling-entry, needs)) (λ c. search (filling-place, needs)) (λ c. search (filling-room, needs)) (λ c. search (filling-count, needs)) (λ c. search (filling-next, needs)) (λ c. search needs) (λ c. search (filling-turn, needs)) (λ c. search (filling-last, needs)))
+    (tie.spec
+    Inv-loop
+    μ-loop
+    (λ c κs. search needs)
+    (λ c κs. search needs)
+    (λ c κs. search needs)
+    (λ c. search (filling-start, needs))
+    (λ c κs. search (filling-has, needs))
+    (λ c. search needs)
+    (λ c. search (filling-entry, needs))
+    (λ c. search (filling-place, needs))
+    (λ c. search (filling-room, needs))
+    (λ c. search (filling-count, needs))
+    (λ c. search (filling-next, needs))
+    (λ c. search needs)
+    (λ c. search (filling-turn, needs))
+    (λ c. search (filling-last, needs)))

@@ -8,4 +8,11 @@ use Rattle.reader.proofs.listing.first_step.Tie as tie
 pub first-step-spec : {M : Type 1} → statement M
 first-step-spec =
     tie.close
-    (tie.spec (λ c. search needs) (λ c κs. search needs) (λ c. search needs) (λ c κs. search needs) (λ c κs. search needs) (λ c. search (step-first, needs)) (λ c. search (step-none, needs)))
+    (tie.spec
+    (λ c. search needs)
+    (λ c κs. search needs)
+    (λ c. search needs)
+    (λ c κs. search needs)
+    (λ c κs. search needs)
+    (λ c. search (step-first, needs))
+    (λ c. search (step-none, needs)))

@@ -8,4 +8,15 @@ use Rattle.reader.proofs.listing.next_object.Tie as tie
 pub next-object-spec : {M : Type 1} → statement M
 next-object-spec =
     tie.close
-    (tie.spec (λ c. search (next-fits, needs)) (λ c. search (next-fits, needs)) (λ c κs. search needs) (λ c κs. search needs) (λ c κs. search needs) (λ c. search (next-none, needs)) (λ c κs. search (next-block, needs)) (λ c κs. search needs) (λ c κs. search (next-count, needs)) (λ c κs. search needs) (λ c. search (next-found, needs)))
+    (tie.spec
+    (λ c. search (next-fits, needs))
+    (λ c. search (next-fits, needs))
+    (λ c κs. search needs)
+    (λ c κs. search needs)
+    (λ c κs. search needs)
+    (λ c. search (next-none, needs))
+    (λ c κs. search (next-block, needs))
+    (λ c κs. search needs)
+    (λ c κs. search (next-count, needs))
+    (λ c κs. search needs)
+    (λ c. search (next-found, needs)))

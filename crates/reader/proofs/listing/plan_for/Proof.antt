@@ -8,4 +8,9 @@ use Rattle.reader.proofs.listing.plan_for.Tie as tie
 pub plan-for-spec : {M : Type 1} → statement M
 plan-for-spec =
     tie.close
-    (tie.spec (λ c. search needs) (λ c κs. search needs) (λ c. search needs) (λ c. search (plan-fits, needs)) (λ c. search (plan-made, needs)))
+    (tie.spec
+    (λ c. search needs)
+    (λ c κs. search needs)
+    (λ c. search needs)
+    (λ c. search (plan-fits, needs))
+    (λ c. search (plan-made, needs)))

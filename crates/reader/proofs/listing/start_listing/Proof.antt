@@ -9,4 +9,16 @@ use Rattle.reader.proofs.listing.start_listing.Tie as tie
 pub start-listing-spec : {M : Type 1} → statement M
 start-listing-spec =
     tie.close
-    (tie.spec (λ c κs. search needs) (λ c. search needs) (λ c κs. search (parsed, needs)) (λ c. search needs) (λ c κs. search needs) (λ c. search (start-short, needs)) (λ c κs. search (start-few, needs)) (λ c. search needs) (λ c. search needs) (λ c. search (start-passed, needs)) (λ c. search (start-failed, needs)) (λ c. search (start-refused, needs)))
+    (tie.spec
+    (λ c κs. search needs)
+    (λ c. search needs)
+    (λ c κs. search (parsed, needs))
+    (λ c. search needs)
+    (λ c κs. search needs)
+    (λ c. search (start-short, needs))
+    (λ c κs. search (start-few, needs))
+    (λ c. search needs)
+    (λ c. search needs)
+    (λ c. search (start-passed, needs))
+    (λ c. search (start-failed, needs))
+    (λ c. search (start-refused, needs)))

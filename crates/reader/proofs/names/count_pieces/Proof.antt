@@ -16,4 +16,17 @@ abbrev μ-loop : tie.MeasureT-loop
 pub count-pieces-spec : {M : Type 1} → statement M
 count-pieces-spec =
     tie.close
-    (tie.spec Inv-loop μ-loop (λ c. search needs) (λ c κs. search needs) (λ c. search needs) (λ c κs. search needs) (λ c. search needs) (λ c. search needs) (λ c. search needs) (λ c. search needs) (λ c. search (count-more, needs)) (λ c. search needs) (λ c. search (count-last, needs)))
+    (tie.spec
+    Inv-loop
+    μ-loop
+    (λ c. search needs)
+    (λ c κs. search needs)
+    (λ c. search needs)
+    (λ c κs. search needs)
+    (λ c. search needs)
+    (λ c. search needs)
+    (λ c. search needs)
+    (λ c. search needs)
+    (λ c. search (count-more, needs))
+    (λ c. search needs)
+    (λ c. search (count-last, needs)))

@@ -8,4 +8,13 @@ use Rattle.reader.proofs.names.name.Tie as tie
 pub name-spec : {M : Type 1} → statement M
 name-spec =
     tie.close
-    (tie.spec (λ c κs. search needs) (λ c. search needs) (λ c. search (name-outside, needs)) (λ c κs. search (has-name, needs)) (λ c κs. search (in-blob, needs)) (λ c. search needs) (λ c. search needs) (λ c. search (name-written, needs)) (λ c. search (name-refused, needs)))
+    (tie.spec
+    (λ c κs. search needs)
+    (λ c. search needs)
+    (λ c. search (name-outside, needs))
+    (λ c κs. search (has-name, needs))
+    (λ c κs. search (in-blob, needs))
+    (λ c. search needs)
+    (λ c. search needs)
+    (λ c. search (name-written, needs))
+    (λ c. search (name-refused, needs)))

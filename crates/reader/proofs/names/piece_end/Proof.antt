@@ -15,4 +15,13 @@ abbrev μ-loop : tie.MeasureT-loop
 pub piece-end-spec : {M : Type 1} → statement M
 piece-end-spec =
     tie.close
-    (tie.spec Inv-loop μ-loop (λ c. search (run-start, needs)) (λ c. search needs) (λ c. search (run-zero, needs)) (λ c. search needs) (λ c. search needs) (λ c. search (run-byte, needs)) (λ c. search (run-last, needs)))
+    (tie.spec
+    Inv-loop
+    μ-loop
+    (λ c. search (run-start, needs))
+    (λ c. search needs)
+    (λ c. search (run-zero, needs))
+    (λ c. search needs)
+    (λ c. search needs)
+    (λ c. search (run-byte, needs))
+    (λ c. search (run-last, needs)))

@@ -15,4 +15,20 @@ abbrev μ-loop : tie.MeasureT-loop
 pub piece-start-spec : {M : Type 1} → statement M
 piece-start-spec =
     tie.close
-    (tie.spec Inv-loop μ-loop (λ c. search (first-starts, needs)) (λ c. search needs) (λ c κs. search (piece-heap, needs)) (λ c. search needs) (λ c. search (seek-start, needs)) (λ c. search (seek-read, needs)) (λ c. search needs) (λ c. search needs) (λ c. search (seek-less, needs)) (λ c. search (seek-zero, needs)) (λ c. search needs) (λ c. search (seek-less, needs)) (λ c. search (seek-byte, needs)) (λ c. search (seek-last, needs)))
+    (tie.spec
+    Inv-loop
+    μ-loop
+    (λ c. search (first-starts, needs))
+    (λ c. search needs)
+    (λ c κs. search (piece-heap, needs))
+    (λ c. search needs)
+    (λ c. search (seek-start, needs))
+    (λ c. search (seek-read, needs))
+    (λ c. search needs)
+    (λ c. search needs)
+    (λ c. search (seek-less, needs))
+    (λ c. search (seek-zero, needs))
+    (λ c. search needs)
+    (λ c. search (seek-less, needs))
+    (λ c. search (seek-byte, needs))
+    (λ c. search (seek-last, needs)))

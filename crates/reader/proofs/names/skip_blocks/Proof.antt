@@ -16,4 +16,15 @@ abbrev μ-loop : tie.MeasureT-loop
 pub skip-blocks-spec : {M : Type 1} → statement M
 skip-blocks-spec =
     tie.close
-    (tie.spec Inv-loop μ-loop (λ c. search (count-none, needs)) (λ c. search needs) (λ c κs. search needs) (λ c. search needs) (λ c. search needs) (λ c. search needs) (λ c. search needs) (λ c. search (count-more, needs)) (λ c. search needs))
+    (tie.spec
+    Inv-loop
+    μ-loop
+    (λ c. search (count-none, needs))
+    (λ c. search needs)
+    (λ c κs. search needs)
+    (λ c. search needs)
+    (λ c. search needs)
+    (λ c. search needs)
+    (λ c. search needs)
+    (λ c. search (count-more, needs))
+    (λ c. search needs))

@@ -8,4 +8,14 @@ use Rattle.reader.proofs.names.write_piece.Tie as tie
 pub write-piece-spec : {M : Type 1} → statement M
 write-piece-spec =
     tie.close
-    (tie.spec (λ c. search needs) (λ c. search needs) (λ c. search needs) (λ c κs. search needs) (λ c. search needs) (λ c. search needs) (λ c. search needs) (λ c. search (part-written, needs)) (λ c. search needs) (λ c. search (part-short, needs)))
+    (tie.spec
+    (λ c. search needs)
+    (λ c. search needs)
+    (λ c. search needs)
+    (λ c κs. search needs)
+    (λ c. search needs)
+    (λ c. search needs)
+    (λ c. search needs)
+    (λ c. search (part-written, needs))
+    (λ c. search needs)
+    (λ c. search (part-short, needs)))

@@ -8,4 +8,11 @@ use Rattle.reader.proofs.objects.check_block.Tie as tie
 pub check-block-spec : {M : Type 1} → statement M
 check-block-spec =
     tie.close
-    (tie.spec (λ c κs. search needs) (λ c. search (block-none, needs)) (λ c κs. search needs) (λ c. search needs) (λ c. search needs) (λ c. search (block-outside, needs)) (λ c. search (block-inside, needs)))
+    (tie.spec
+    (λ c κs. search needs)
+    (λ c. search (block-none, needs))
+    (λ c κs. search needs)
+    (λ c. search needs)
+    (λ c. search needs)
+    (λ c. search (block-outside, needs))
+    (λ c. search (block-inside, needs)))

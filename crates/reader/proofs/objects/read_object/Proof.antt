@@ -8,4 +8,18 @@ use Rattle.reader.proofs.objects.read_object.Tie as tie
 pub read-object-spec : {M : Type 1} → statement M
 read-object-spec =
     tie.close
-    (tie.spec (λ c κs. search needs) (λ c κs. search needs) (λ c. search needs) (λ c. search (object-refused, needs)) (λ c. search needs) (λ c κs. search needs) (λ c κs. search needs) (λ c. search (object-none, needs)) (λ c κs. search needs) (λ c. search needs) (λ c κs. search (object-has, needs)) (λ c κs. search (count-inside, needs)) (λ c κs. search needs) (λ c. search (object-found, needs)))
+    (tie.spec
+    (λ c κs. search needs)
+    (λ c κs. search needs)
+    (λ c. search needs)
+    (λ c. search (object-refused, needs))
+    (λ c. search needs)
+    (λ c κs. search needs)
+    (λ c κs. search needs)
+    (λ c. search (object-none, needs))
+    (λ c κs. search needs)
+    (λ c. search needs)
+    (λ c κs. search (object-has, needs))
+    (λ c κs. search (count-inside, needs))
+    (λ c κs. search needs)
+    (λ c. search (object-found, needs)))

@@ -8,4 +8,12 @@ use Rattle.reader.proofs.properties.check_triple.Tie as tie
 pub check-triple-spec : {M : Type 1} → statement M
 check-triple-spec =
     tie.close
-    (tie.spec (λ c. search needs) (λ c. search (triple-checks, needs)) (λ c. search needs) (λ c. search (triple-checks, needs)) (λ c. search needs) (λ c. search (triple-checks, needs)) (λ c. search (triple-checks, needs)) (λ c. search (triple-checks, needs)))
+    (tie.spec
+    (λ c. search needs)
+    (λ c. search (triple-checks, needs))
+    (λ c. search needs)
+    (λ c. search (triple-checks, needs))
+    (λ c. search needs)
+    (λ c. search (triple-checks, needs))
+    (λ c. search (triple-checks, needs))
+    (λ c. search (triple-checks, needs)))

@@ -14,4 +14,17 @@ abbrev μ-loop : tie.MeasureT-loop
 pub check-triples-spec : {M : Type 1} → statement M
 check-triples-spec =
     tie.close
-    (tie.spec Inv-loop μ-loop (λ c. search (checking-start, needs)) (λ c κs. search (checking-read, needs)) (λ c κs. search needs) (λ c. search needs) (λ c. search (checking-stop, needs)) (λ c. search needs) (λ c. search needs) (λ c. search needs) (λ c. search needs) (λ c. search (checking-turn, needs)) (λ c. search (checking-last, needs)))
+    (tie.spec
+    Inv-loop
+    μ-loop
+    (λ c. search (checking-start, needs))
+    (λ c κs. search (checking-read, needs))
+    (λ c κs. search needs)
+    (λ c. search needs)
+    (λ c. search (checking-stop, needs))
+    (λ c. search needs)
+    (λ c. search needs)
+    (λ c. search needs)
+    (λ c. search needs)
+    (λ c. search (checking-turn, needs))
+    (λ c. search (checking-last, needs)))

@@ -10,4 +10,14 @@ use Rattle.reader.proofs.properties.object_triples.Tie as tie
 pub object-triples-spec : {M : Type 1} → statement M
 object-triples-spec =
     tie.close
-    (tie.spec (λ c κs. search needs) (λ c. search needs) (λ c κs. search needs) (λ c. search needs) (λ c. search (triples-failed, needs)) (λ c. search needs) (λ c κs. search (parsed, id-below, needs)) (λ c. search needs) (λ c. search (triples-read, needs)) (λ c. search (triples-refused, needs)))
+    (tie.spec
+    (λ c κs. search needs)
+    (λ c. search needs)
+    (λ c κs. search needs)
+    (λ c. search needs)
+    (λ c. search (triples-failed, needs))
+    (λ c. search needs)
+    (λ c κs. search (parsed, id-below, needs))
+    (λ c. search needs)
+    (λ c. search (triples-read, needs))
+    (λ c. search (triples-refused, needs)))

@@ -8,4 +8,12 @@ use Rattle.reader.proofs.properties.properties.Tie as tie
 pub properties-spec : {M : Type 1} → statement M
 properties-spec =
     tie.close
-    (tie.spec (λ c κs. search needs) (λ c. search needs) (λ c. search (rows-short, needs)) (λ c κs. search (rows-inside, needs)) (λ c. search needs) (λ c. search needs) (λ c. search (rows-written, needs)) (λ c. search (rows-refused, needs)))
+    (tie.spec
+    (λ c κs. search needs)
+    (λ c. search needs)
+    (λ c. search (rows-short, needs))
+    (λ c κs. search (rows-inside, needs))
+    (λ c. search needs)
+    (λ c. search needs)
+    (λ c. search (rows-written, needs))
+    (λ c. search (rows-refused, needs)))

@@ -15,4 +15,18 @@ abbrev μ-loop : tie.MeasureT-loop
 pub put-rows-spec : {M : Type 1} → statement M
 put-rows-spec =
     tie.close
-    (tie.spec Inv-loop μ-loop (λ c. search (fill-start, needs)) (λ c. search needs) (λ c. search (fill-read, needs)) (λ c κs. search (fill-read, needs)) (λ c κs. search needs) (λ c. search needs) (λ c. search (fill-room, needs)) (λ c. search needs) (λ c. search needs) (λ c. search (fill-turn, needs)) (λ c. search (fill-length, needs)) (λ c. search (fill-last, needs)))
+    (tie.spec
+    Inv-loop
+    μ-loop
+    (λ c. search (fill-start, needs))
+    (λ c. search needs)
+    (λ c. search (fill-read, needs))
+    (λ c κs. search (fill-read, needs))
+    (λ c κs. search needs)
+    (λ c. search needs)
+    (λ c. search (fill-room, needs))
+    (λ c. search needs)
+    (λ c. search needs)
+    (λ c. search (fill-turn, needs))
+    (λ c. search (fill-length, needs))
+    (λ c. search (fill-last, needs)))

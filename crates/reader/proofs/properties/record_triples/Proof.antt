@@ -8,4 +8,15 @@ use Rattle.reader.proofs.properties.record_triples.Tie as tie
 pub record-triples-spec : {M : Type 1} → statement M
 record-triples-spec =
     tie.close
-    (tie.spec (λ c κs. search needs) (λ c. search needs) (λ c. search (triples-fit, needs)) (λ c. search needs) (λ c κs. search (triples-inside, needs)) (λ c. search needs) (λ c. search (record-failed, needs)) (λ c. search needs) (λ c. search needs) (λ c. search (record-passed, needs)) (λ c. search (record-refused, needs)))
+    (tie.spec
+    (λ c κs. search needs)
+    (λ c. search needs)
+    (λ c. search (triples-fit, needs))
+    (λ c. search needs)
+    (λ c κs. search (triples-inside, needs))
+    (λ c. search needs)
+    (λ c. search (record-failed, needs))
+    (λ c. search needs)
+    (λ c. search needs)
+    (λ c. search (record-passed, needs))
+    (λ c. search (record-refused, needs)))

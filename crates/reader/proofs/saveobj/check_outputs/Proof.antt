@@ -8,4 +8,9 @@ use Rattle.reader.proofs.saveobj.check_outputs.Tie as tie
 pub check-outputs-spec : {M : Type 1} → statement M
 check-outputs-spec =
     tie.close
-    (tie.spec (λ c. search (outputs-text, needs)) (λ c. search needs) (λ c. search needs) (λ c. search (outputs-spans, needs)) (λ c. search (outputs-fit, needs)))
+    (tie.spec
+    (λ c. search (outputs-text, needs))
+    (λ c. search needs)
+    (λ c. search needs)
+    (λ c. search (outputs-spans, needs))
+    (λ c. search (outputs-fit, needs)))

@@ -8,4 +8,17 @@ use Rattle.reader.proofs.string_objects.choose_property.Tie as tie
 pub choose-property-spec : {M : Type 1} → statement M
 choose-property-spec =
     tie.close
-    (tie.spec (λ c κs. search needs) (λ c. search needs) (λ c. search (choose-none, needs)) (λ c. search needs) (λ c κs. search (choose-passed, needs)) (λ c κs. search (choose-first-inside, needs)) (λ c. search (choose-first, needs)) (λ c. search (choose-multiple, needs)) (λ c. search (choose-sum, needs)) (λ c κs. search (choose-inside, needs)) (λ c. search needs) (λ c. search (choose-named, needs)) (λ c. search (choose-refused, needs)))
+    (tie.spec
+    (λ c κs. search needs)
+    (λ c. search needs)
+    (λ c. search (choose-none, needs))
+    (λ c. search needs)
+    (λ c κs. search (choose-passed, needs))
+    (λ c κs. search (choose-first-inside, needs))
+    (λ c. search (choose-first, needs))
+    (λ c. search (choose-multiple, needs))
+    (λ c. search (choose-sum, needs))
+    (λ c κs. search (choose-inside, needs))
+    (λ c. search needs)
+    (λ c. search (choose-named, needs))
+    (λ c. search (choose-refused, needs)))

@@ -9,4 +9,17 @@ use Rattle.reader.proofs.string_objects.decode_property.Tie as tie
 pub decode-property-spec : {M : Type 1} → statement M
 decode-property-spec =
     tie.close
-    (tie.spec (λ c. search (property-other, needs)) (λ c κs. search needs) (λ c. search needs) (λ c. search (found, needs)) (λ c. search (found, needs)) (λ c. search (found, needs)) (λ c. search (found, needs)) (λ c κs. search needs) (λ c. search needs) (λ c. search needs) (λ c. search needs) (λ c. search (property-decoded, needs)) (λ c. search (property-refused, needs)))
+    (tie.spec
+    (λ c. search (property-other, needs))
+    (λ c κs. search needs)
+    (λ c. search needs)
+    (λ c. search (found, needs))
+    (λ c. search (found, needs))
+    (λ c. search (found, needs))
+    (λ c. search (found, needs))
+    (λ c κs. search needs)
+    (λ c. search needs)
+    (λ c. search needs)
+    (λ c. search needs)
+    (λ c. search (property-decoded, needs))
+    (λ c. search (property-refused, needs)))

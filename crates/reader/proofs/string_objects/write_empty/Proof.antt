@@ -8,4 +8,9 @@ use Rattle.reader.proofs.string_objects.write_empty.Tie as tie
 pub write-empty-spec : {M : Type 1} → statement M
 write-empty-spec =
     tie.close
-    (tie.spec (λ c. search (empty-short, needs)) (λ c. search needs) (λ c. search needs) (λ c. search needs) (λ c. search (empty-written, needs)))
+    (tie.spec
+    (λ c. search (empty-short, needs))
+    (λ c. search needs)
+    (λ c. search needs)
+    (λ c. search needs)
+    (λ c. search (empty-written, needs)))

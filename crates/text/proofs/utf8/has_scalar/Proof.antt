@@ -8,4 +8,11 @@ use Rattle.text.proofs.utf8.has_scalar.Tie as tie
 pub has-scalar-spec : {M : Type 1} → statement M
 has-scalar-spec =
     tie.close
-    (tie.spec (λ c κs. search needs) (λ c. search needs) (λ c. search needs) (λ c. search needs) (λ c. search (has-by-value, needs)) (λ c. search (has-not-ill-formed, needs)) (λ c. search (has-not-end, needs)))
+    (tie.spec
+    (λ c κs. search needs)
+    (λ c. search needs)
+    (λ c. search needs)
+    (λ c. search needs)
+    (λ c. search (has-by-value, needs))
+    (λ c. search (has-not-ill-formed, needs))
+    (λ c. search (has-not-end, needs)))

@@ -15,4 +15,23 @@ abbrev μ-loop : tie.MeasureT-loop
 pub is-lossy-spec : {M : Type 1} → statement M
 is-lossy-spec =
     tie.close
-    (tie.spec Inv-loop μ-loop (λ c. search match-start) (λ c κs. search needs) (λ c. search needs) (λ c κs. search needs) (λ c. search (stop-scalar, needs)) (λ c κs. search needs) (λ c. search needs) (λ c. search less) (λ c. search (match-scalar, needs)) (λ c. search needs) (λ c κs. search needs) (λ c. search (stop-replacement, needs)) (λ c. search needs) (λ c. search less) (λ c. search (match-replacement, needs)) (λ c. search needs) (λ c. search (match-last, needs)))
+    (tie.spec
+    Inv-loop
+    μ-loop
+    (λ c. search match-start)
+    (λ c κs. search needs)
+    (λ c. search needs)
+    (λ c κs. search needs)
+    (λ c. search (stop-scalar, needs))
+    (λ c κs. search needs)
+    (λ c. search needs)
+    (λ c. search less)
+    (λ c. search (match-scalar, needs))
+    (λ c. search needs)
+    (λ c κs. search needs)
+    (λ c. search (stop-replacement, needs))
+    (λ c. search needs)
+    (λ c. search less)
+    (λ c. search (match-replacement, needs))
+    (λ c. search needs)
+    (λ c. search (match-last, needs)))

@@ -6,4 +6,9 @@ use Rattle.text.proofs.utf8.is_scalar.Statement.{statement}
 use Rattle.text.proofs.utf8.is_scalar.Tie as tie
 
 pub is-scalar-spec : {M : Type 1} → statement M
-is-scalar-spec = tie.close (tie.spec (λ c. search (scalar-tests, needs)) (λ c. search (scalar-tests, needs)) (λ c. search (scalar-tests, needs)))
+is-scalar-spec =
+    tie.close
+    (tie.spec
+    (λ c. search (scalar-tests, needs))
+    (λ c. search (scalar-tests, needs))
+    (λ c. search (scalar-tests, needs)))

@@ -8,4 +8,10 @@ use Rattle.text.proofs.utf8.lossy_length.Tie as tie
 pub lossy-length-spec : {M : Type 1} → statement M
 lossy-length-spec =
     tie.close
-    (tie.spec (λ c κs. search needs) (λ c. search needs) (λ c. search needs) (λ c κs. search (first-broken, needs)) (λ c. search (length-kept, needs)) (λ c. search needs))
+    (tie.spec
+    (λ c κs. search needs)
+    (λ c. search needs)
+    (λ c. search needs)
+    (λ c κs. search (first-broken, needs))
+    (λ c. search (length-kept, needs))
+    (λ c. search needs))

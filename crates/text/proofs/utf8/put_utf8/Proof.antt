@@ -77,4 +77,51 @@ returns-4 c =
 pub put-utf8-spec : {M : Type 1} → statement M
 put-utf8-spec =
     tie.close
-    (tie.spec (λ c. search needs) slice-write-out (λ c. search needs) (λ c. search needs) returns (λ c. search needs) (λ c. search needs) slice-write-out-2 (λ c. search needs) (λ c. search needs) (λ c. search needs) slice-write-out-3 (λ c. search needs) (λ c. search needs) returns-2 (λ c. search needs) (λ c. search needs) slice-write-out-4 (λ c. search needs) (λ c. search needs) (λ c. search needs) slice-write-out-5 (λ c. search needs) (λ c. search needs) (λ c. search needs) slice-write-out-6 (λ c. search needs) (λ c. search needs) returns-3 (λ c. search needs) (λ c. search needs) slice-write-out-7 (λ c. search needs) (λ c. search needs) (λ c. search needs) slice-write-out-8 (λ c. search needs) (λ c. search needs) (λ c. search needs) slice-write-out-9 (λ c. search needs) (λ c. search needs) (λ c. search needs) slice-write-out-10 (λ c. search needs) (λ c. search needs) returns-4)
+    (tie.spec
+    (λ c. search needs)
+    slice-write-out
+    (λ c. search needs)
+    (λ c. search needs)
+    returns
+    (λ c. search needs)
+    (λ c. search needs)
+    slice-write-out-2
+    (λ c. search needs)
+    (λ c. search needs)
+    (λ c. search needs)
+    slice-write-out-3
+    (λ c. search needs)
+    (λ c. search needs)
+    returns-2
+    (λ c. search needs)
+    (λ c. search needs)
+    slice-write-out-4
+    (λ c. search needs)
+    (λ c. search needs)
+    (λ c. search needs)
+    slice-write-out-5
+    (λ c. search needs)
+    (λ c. search needs)
+    (λ c. search needs)
+    slice-write-out-6
+    (λ c. search needs)
+    (λ c. search needs)
+    returns-3
+    (λ c. search needs)
+    (λ c. search needs)
+    slice-write-out-7
+    (λ c. search needs)
+    (λ c. search needs)
+    (λ c. search needs)
+    slice-write-out-8
+    (λ c. search needs)
+    (λ c. search needs)
+    (λ c. search needs)
+    slice-write-out-9
+    (λ c. search needs)
+    (λ c. search needs)
+    (λ c. search needs)
+    slice-write-out-10
+    (λ c. search needs)
+    (λ c. search needs)
+    returns-4)

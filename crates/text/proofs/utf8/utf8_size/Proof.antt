@@ -7,4 +7,9 @@ use Rattle.text.proofs.utf8.utf8_size.Tie as tie
 
 pub utf8-size-spec : {M : Type 1} → statement M
 utf8-size-spec =
-    tie.close (tie.spec (λ c. search (sizes-of, needs)) (λ c. search (sizes-of, needs)) (λ c. search (sizes-of, needs)) (λ c. search (sizes-of, needs)))
+    tie.close
+    (tie.spec
+    (λ c. search (sizes-of, needs))
+    (λ c. search (sizes-of, needs))
+    (λ c. search (sizes-of, needs))
+    (λ c. search (sizes-of, needs)))

@@ -7,4 +7,10 @@ use Rattle.writer.proofs.checks.is_shape.Tie as tie
 
 pub is-shape-spec : {M : Type 1} → statement M
 is-shape-spec =
-    tie.close (tie.spec (λ c κs. search needs) (λ c. search needs) (λ c. search needs) (λ c. search (shape-of, needs)) (λ c. search (shape-overflow, needs)))
+    tie.close
+    (tie.spec
+    (λ c κs. search needs)
+    (λ c. search needs)
+    (λ c. search needs)
+    (λ c. search (shape-of, needs))
+    (λ c. search (shape-overflow, needs)))

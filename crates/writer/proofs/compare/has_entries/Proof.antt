@@ -15,4 +15,15 @@ abbrev μ-loop : tie.MeasureT-loop
 pub has-entries-spec : {M : Type 1} → statement M
 has-entries-spec =
     tie.close
-    (tie.spec Inv-loop μ-loop (λ c. search (comparing-start, needs)) (λ c. search needs) (λ c κs. (search needs, search (comparing-room, needs))) (λ c. search (comparing-stop, needs)) (λ c. search needs) (λ c. search needs) (λ c. search needs) (λ c. search (comparing-turn, needs)) (λ c. search (comparing-last, needs)))
+    (tie.spec
+    Inv-loop
+    μ-loop
+    (λ c. search (comparing-start, needs))
+    (λ c. search needs)
+    (λ c κs. (search needs, search (comparing-room, needs)))
+    (λ c. search (comparing-stop, needs))
+    (λ c. search needs)
+    (λ c. search needs)
+    (λ c. search needs)
+    (λ c. search (comparing-turn, needs))
+    (λ c. search (comparing-last, needs)))

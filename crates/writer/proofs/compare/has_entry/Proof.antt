@@ -15,4 +15,18 @@ size e = ap (λ (k : Region). length (entry k 0)) e
 pub has-entry-spec : {M : Type 1} → statement M
 has-entry-spec =
     tie.close
-    (tie.spec (λ c. search needs) (λ c. search needs) (λ c κs. omega (arith, size (c .before .enum-told .given .1))) (λ c. search needs) (λ c. search needs) (λ c. search needs) (λ c. search needs) (λ c κs. omega (arith, size (c .before .enum-told2 .given .1))) (λ c. search needs) (λ c. search needs) (λ c κs. omega (arith, size (c .before .enum-told3 .given .1))) (λ c. rw (c .before .before .enum-told .given .1) (c .has-words .ensures)) (λ c. rw (c .before .before .enum-told2 .given .1) (c .has-words2 .ensures)) (λ c. rw (c .before .before .enum-told3 .given .1) (c .has-words3 .ensures)))
+    (tie.spec
+    (λ c. search needs)
+    (λ c. search needs)
+    (λ c κs. omega (arith, size (c .before .enum-told .given .1)))
+    (λ c. search needs)
+    (λ c. search needs)
+    (λ c. search needs)
+    (λ c. search needs)
+    (λ c κs. omega (arith, size (c .before .enum-told2 .given .1)))
+    (λ c. search needs)
+    (λ c. search needs)
+    (λ c κs. omega (arith, size (c .before .enum-told3 .given .1)))
+    (λ c. rw (c .before .before .enum-told .given .1) (c .has-words .ensures))
+    (λ c. rw (c .before .before .enum-told2 .given .1) (c .has-words2 .ensures))
+    (λ c. rw (c .before .before .enum-told3 .given .1) (c .has-words3 .ensures)))

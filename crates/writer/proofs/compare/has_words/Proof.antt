@@ -16,4 +16,17 @@ abbrev μ-loop : tie.MeasureT-loop
 pub has-words-spec : {M : Type 1} → statement M
 has-words-spec =
     tie.close
-    (tie.spec Inv-loop μ-loop (λ c. reading-start) (λ c. search needs) (λ c. search needs) (λ c. search needs) (λ c. search needs) (λ c κs. search needs) (λ c. search (reading-stop, needs)) (λ c. search needs) (λ c. search needs) (λ c. search (reading-turn, needs)) (λ c. search (reading-last, needs)))
+    (tie.spec
+    Inv-loop
+    μ-loop
+    (λ c. reading-start)
+    (λ c. search needs)
+    (λ c. search needs)
+    (λ c. search needs)
+    (λ c. search needs)
+    (λ c κs. search needs)
+    (λ c. search (reading-stop, needs))
+    (λ c. search needs)
+    (λ c. search needs)
+    (λ c. search (reading-turn, needs))
+    (λ c. search (reading-last, needs)))

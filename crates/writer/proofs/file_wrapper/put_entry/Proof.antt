@@ -60,4 +60,21 @@ returns-3 c = one-pair (dependents (c .before .before .before .before)) (c .befo
 pub put-entry-spec : {M : Type 1} → statement M
 put-entry-spec =
     tie.close
-    (tie.spec (λ c. search needs) put-pair-requires put-pair-requires-2 (λ c. search needs) put-pair-requires-3 (λ c. search needs) put-pair-requires-4 (λ c. search needs) put-pair-requires-5 (λ c. search needs) put-pair-requires-6 (λ c. search needs) returns (λ c. search needs) returns-2 (λ c. search needs) returns-3)
+    (tie.spec
+    (λ c. search needs)
+    put-pair-requires
+    put-pair-requires-2
+    (λ c. search needs)
+    put-pair-requires-3
+    (λ c. search needs)
+    put-pair-requires-4
+    (λ c. search needs)
+    put-pair-requires-5
+    (λ c. search needs)
+    put-pair-requires-6
+    (λ c. search needs)
+    returns
+    (λ c. search needs)
+    returns-2
+    (λ c. search needs)
+    returns-3)

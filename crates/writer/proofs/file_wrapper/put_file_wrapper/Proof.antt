@@ -37,4 +37,13 @@ returns c =
 pub put-file-wrapper-spec : {M : Type 1} → statement M
 put-file-wrapper-spec =
     tie.close
-    (tie.spec (λ c κs. search needs) put-classes-requires put-region-requires put-region-requires-2 put-pair-requires put-region-requires-3 put-pair-requires-2 (λ c. search needs) returns)
+    (tie.spec
+    (λ c κs. search needs)
+    put-classes-requires
+    put-region-requires
+    put-region-requires-2
+    put-pair-requires
+    put-region-requires-3
+    put-pair-requires-2
+    (λ c. search needs)
+    returns)

@@ -17,4 +17,24 @@ returns c =
 pub put-offsets-spec : {M : Type 1} → statement M
 put-offsets-spec =
     tie.close
-    (tie.spec (λ c. search needs) (λ c κs. search needs) (λ c κs. search needs) (λ c. search needs) (λ c. search needs) (λ c. search needs) (λ c. search needs) (λ c κs. search needs) (λ c. search needs) (λ c. search needs) (λ c. search needs) (λ c. search needs) (λ c κs. search needs) (λ c. search needs) (λ c. search needs) (λ c. search needs) (λ c. search needs) (λ c κs. search needs) (λ c. search needs) returns)
+    (tie.spec
+    (λ c. search needs)
+    (λ c κs. search needs)
+    (λ c κs. search needs)
+    (λ c. search needs)
+    (λ c. search needs)
+    (λ c. search needs)
+    (λ c. search needs)
+    (λ c κs. search needs)
+    (λ c. search needs)
+    (λ c. search needs)
+    (λ c. search needs)
+    (λ c. search needs)
+    (λ c κs. search needs)
+    (λ c. search needs)
+    (λ c. search needs)
+    (λ c. search needs)
+    (λ c. search needs)
+    (λ c κs. search needs)
+    (λ c. search needs)
+    returns)

@@ -15,4 +15,15 @@ abbrev μ-loop : tie.MeasureT-loop
 pub put-region-spec : {M : Type 1} → statement M
 put-region-spec =
     tie.close
-    (tie.spec Inv-loop μ-loop (λ c κs. search (zero-fits, needs)) (λ c. search (entries-start, needs)) (λ c. search needs) (λ c κs. (search needs, search (entries-room, needs))) (λ c. search needs) (λ c. search needs) (λ c. search (entries-turn, needs)) (λ c. search needs) (λ c. search (entries-last, needs)))
+    (tie.spec
+    Inv-loop
+    μ-loop
+    (λ c κs. search (zero-fits, needs))
+    (λ c. search (entries-start, needs))
+    (λ c. search needs)
+    (λ c κs. (search needs, search (entries-room, needs)))
+    (λ c. search needs)
+    (λ c. search needs)
+    (λ c. search (entries-turn, needs))
+    (λ c. search needs)
+    (λ c. search (entries-last, needs)))

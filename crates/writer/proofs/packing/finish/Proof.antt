@@ -15,4 +15,12 @@ abbrev μ-loop : tie.MeasureT-loop
 pub finish-spec : {M : Type 1} → statement M
 finish-spec =
     tie.close
-    (tie.spec Inv-loop μ-loop (λ c. search finish-start) (λ c κs. search (finish-fits, needs)) (λ c. search (finish-less, needs)) (λ c. search (finish-turn, needs)) (λ c. search (pushed-length, needs)) (λ c. search (finish-last, needs)))
+    (tie.spec
+    Inv-loop
+    μ-loop
+    (λ c. search finish-start)
+    (λ c κs. search (finish-fits, needs))
+    (λ c. search (finish-less, needs))
+    (λ c. search (finish-turn, needs))
+    (λ c. search (pushed-length, needs))
+    (λ c. search (finish-last, needs)))

@@ -22,4 +22,19 @@ add-first c =
 pub put-strings-spec : {M : Type 1} → statement M
 put-strings-spec =
     tie.close
-    (tie.spec Inv-loop μ-loop add-first (λ c. search (string-start, needs)) (λ c κs. search (string-fits, needs)) (λ c. search (pushed-grows, needs)) (λ c. search needs) (λ c. search needs) (λ c. search (string-slot, needs)) (λ c. search needs) (λ c. search needs) (λ c. search (string-turn, needs)) (λ c κs. search (finish-room, needs)) (λ c. search (string-same, needs)) (λ c. search (string-last, needs)))
+    (tie.spec
+    Inv-loop
+    μ-loop
+    add-first
+    (λ c. search (string-start, needs))
+    (λ c κs. search (string-fits, needs))
+    (λ c. search (pushed-grows, needs))
+    (λ c. search needs)
+    (λ c. search needs)
+    (λ c. search (string-slot, needs))
+    (λ c. search needs)
+    (λ c. search needs)
+    (λ c. search (string-turn, needs))
+    (λ c κs. search (finish-room, needs))
+    (λ c. search (string-same, needs))
+    (λ c. search (string-last, needs)))

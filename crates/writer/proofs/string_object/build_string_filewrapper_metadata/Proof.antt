@@ -8,4 +8,12 @@ use Rattle.writer.proofs.string_object.build_string_filewrapper_metadat
 pub build-string-filewrapper-metadata-spec : {M : Type 1} → statement M
 build-string-filewrapper-metadata-spec =
     tie.close
-    (tie.spec (λ c. search (many-refused, needs)) (λ c κs. search needs) (λ c. search needs) (λ c. search needs) (λ c. search (short-refused, needs)) (λ c κs. search needs) (λ c. search needs) (λ c. search (built, needs)))
+    (tie.spec
+    (λ c. search (many-refused, needs))
+    (λ c κs. search needs)
+    (λ c. search needs)
+    (λ c. search needs)
+    (λ c. search (short-refused, needs))
+    (λ c κs. search needs)
+    (λ c. search needs)
+    (λ c. search (built, needs)))

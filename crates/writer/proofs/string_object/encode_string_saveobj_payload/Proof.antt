@@ -8,4 +8,12 @@ use Rattle.writer.proofs.string_object.encode_string_saveobj_payload.Ti
 pub encode-string-saveobj-payload-spec : {M : Type 1} → statement M
 encode-string-saveobj-payload-spec =
     tie.close
-    (tie.spec (λ c κs. search needs) (λ c. search needs) (λ c. search (encode-short, needs)) (λ c κs. search (encode-fits, needs)) (λ c. search needs) (λ c. search needs) (λ c. search (encode-written, needs)) (λ c. search (encode-refused, needs)))
+    (tie.spec
+    (λ c κs. search needs)
+    (λ c. search needs)
+    (λ c. search (encode-short, needs))
+    (λ c κs. search (encode-fits, needs))
+    (λ c. search needs)
+    (λ c. search needs)
+    (λ c. search (encode-written, needs))
+    (λ c. search (encode-refused, needs)))

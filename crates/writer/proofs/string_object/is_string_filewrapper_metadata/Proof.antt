@@ -8,4 +8,11 @@ use Rattle.writer.proofs.string_object.is_string_filewrapper_metadata.T
 pub is-string-filewrapper-metadata-spec : {M : Type 1} → statement M
 is-string-filewrapper-metadata-spec =
     tie.close
-    (tie.spec (λ c. search (many-not, needs)) (λ c κs. search needs) (λ c. search needs) (λ c. search needs) (λ c. search (length-not, needs)) (λ c κs. search needs) (λ c. search (is-blob, needs)))
+    (tie.spec
+    (λ c. search (many-not, needs))
+    (λ c κs. search needs)
+    (λ c. search needs)
+    (λ c. search needs)
+    (λ c. search (length-not, needs))
+    (λ c κs. search needs)
+    (λ c. search (is-blob, needs)))

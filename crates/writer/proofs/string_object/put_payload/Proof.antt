@@ -8,4 +8,11 @@ use Rattle.writer.proofs.string_object.put_payload.Tie as tie
 pub put-payload-spec : {M : Type 1} → statement M
 put-payload-spec =
     tie.close
-    (tie.spec (λ c. search (first-room, needs)) (λ c. search (second-room, needs)) (λ c κs. search needs) (λ c. search needs) (λ c κs. search (strings-fit, needs)) (λ c. search (payload-same, needs)) (λ c. search (payload-put, needs)))
+    (tie.spec
+    (λ c. search (first-room, needs))
+    (λ c. search (second-room, needs))
+    (λ c κs. search needs)
+    (λ c. search needs)
+    (λ c κs. search (strings-fit, needs))
+    (λ c. search (payload-same, needs))
+    (λ c. search (payload-put, needs)))

@@ -8,4 +8,19 @@ use Rattle.reader.proofs.file_wrapper.FileWrapper.parse.Tie as tie
 pub parse-spec : {M : Type 1} → statement M
 parse-spec =
     tie.close
-    (tie.spec (λ c. search (opening, needs)) (λ c κs. search needs) (λ c. search needs) (λ c κs. search needs) (λ c. search needs) (λ c. search (opening, needs)) (λ c. search needs) (λ c κs. search needs) (λ c. search (opening, needs)) (λ c κs. search needs) (λ c. search needs) (λ c. search (opening, needs)) (λ c. search needs) (λ c κs. search (ordered, needs)) (λ c. search (opening, needs)))
+    (tie.spec
+    (λ c. search (opening, needs))
+    (λ c κs. search needs)
+    (λ c. search needs)
+    (λ c κs. search needs)
+    (λ c. search needs)
+    (λ c. search (opening, needs))
+    (λ c. search needs)
+    (λ c κs. search needs)
+    (λ c. search (opening, needs))
+    (λ c κs. search needs)
+    (λ c. search needs)
+    (λ c. search (opening, needs))
+    (λ c. search needs)
+    (λ c κs. search (ordered, needs))
+    (λ c. search (opening, needs)))
