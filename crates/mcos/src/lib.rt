@@ -80,7 +80,9 @@ fn put_length(reply: LengthReply, length: &mut u64, place: &mut u64) -> u32
 }
 
 fn put_name(reply: NameReply, bytes: &mut u64, place: &mut u64) -> u32
-    ensures { λ r. ⌜ Exports (λ x. x) (nameReplyOf reply) (now (bytes .entry)) (now (place .entry)) r (now (bytes .exit)) (now (place .exit)) ⌝ }
+    ensures { λ r. ⌜ (
+        Exports (λ x. x) (nameReplyOf reply) (now (bytes .entry)) (now (place .entry))
+        r (now (bytes .exit)) (now (place .exit))) ⌝ }
 {
     match reply {
         NameReply::Text(n) => {
@@ -92,7 +94,9 @@ fn put_name(reply: NameReply, bytes: &mut u64, place: &mut u64) -> u32
 }
 
 fn put_strings(reply: StringsReply, bytes: &mut u64, strings: &mut u64, place: &mut u64) -> u32
-    ensures { λ r. ⌜ Exports (λ x. x) (stringsReplyOf reply) (countCells (now (bytes .entry)) (now (strings .entry))) (now (place .entry)) r (countCells (now (bytes .exit)) (now (strings .exit))) (now (place .exit)) ⌝ }
+    ensures { λ r. ⌜ (
+        Exports (λ x. x) (stringsReplyOf reply) (countCells (now (bytes .entry)) (now (strings .entry))) (now (place .entry))
+        r (countCells (now (bytes .exit)) (now (strings .exit))) (now (place .exit))) ⌝ }
 {
     match reply {
         StringsReply::Strings {
@@ -108,7 +112,9 @@ fn put_strings(reply: StringsReply, bytes: &mut u64, strings: &mut u64, place: &
 }
 
 fn put_edit(e: Edited, counts: &mut [u64; 3], place: &mut u64) -> u32
-    ensures { λ r. ⌜ Exports (λ _. editCells e) (editReplyOf (e .reply)) (now (counts .entry)) (now (place .entry)) r (now (counts .exit)) (now (place .exit)) ⌝ }
+    ensures { λ r. ⌜ (
+        Exports (λ _. editCells e) (editReplyOf (e .reply)) (now (counts .entry)) (now (place .entry))
+        r (now (counts .exit)) (now (place .exit))) ⌝ }
 {
     let reply = e.reply;
     match reply {
@@ -143,7 +149,9 @@ pub extern "C" fn mcos_write_lossy(
     replaced: &mut u64,
     place: &mut u64,
 ) -> u32
-    ensures { λ r. ⌜ ExportsLossy (now (s .entry)) (now (out .entry)) (now (bytes .entry)) (now (replaced .entry)) (now (place .entry)) r (now (out .exit)) (now (bytes .exit)) (now (replaced .exit)) (now (place .exit)) ⌝ }
+    ensures { λ r. ⌜ (
+        ExportsLossy (now (s .entry)) (now (out .entry)) (now (bytes .entry)) (now (replaced .entry)) (now (place .entry))
+        r (now (out .exit)) (now (bytes .exit)) (now (replaced .exit)) (now (place .exit))) ⌝ }
 {
     match utf8::write_lossy(s, out) {
         LossyReply::Written {
@@ -206,7 +214,9 @@ pub extern "C" fn mcos_measure_payload(
     length: &mut u64,
     place: &mut u64,
 ) -> u32
-    ensures { λ r. ⌜ Exports (λ x. x) (measuredPayload (now (dims .entry)) (now (text .entry)) (now (spans .entry))) (now (length .entry)) (now (place .entry)) r (now (length .exit)) (now (place .exit)) ⌝ }
+    ensures { λ r. ⌜ (
+        let outcome = measuredPayload (now (dims .entry)) (now (text .entry)) (now (spans .entry)) in
+        Exports (λ x. x) outcome (now (length .entry)) (now (place .entry)) r (now (length .exit)) (now (place .exit))) ⌝ }
 {
     put_length(
         string_object::measure_payload(dims, text, spans),
@@ -224,7 +234,10 @@ pub extern "C" fn mcos_encode_string_saveobj_payload(
     length: &mut u64,
     place: &mut u64,
 ) -> u32
-    ensures { λ r. ⌜ ExportsList (λ x. x) (encodePayload (now (dims .entry)) (now (text .entry)) (now (spans .entry))) (now (words .entry)) (now (length .entry)) (now (place .entry)) r (now (words .exit)) (now (length .exit)) (now (place .exit)) ⌝ }
+    ensures { λ r. ⌜ (
+        let outcome = encodePayload (now (dims .entry)) (now (text .entry)) (now (spans .entry)) in
+        ExportsList (λ x. x) outcome (now (words .entry)) (now (length .entry)) (now (place .entry))
+        r (now (words .exit)) (now (length .exit)) (now (place .exit))) ⌝ }
 {
     put_length(
         string_object::encode_string_saveobj_payload(dims, text, spans, words),
@@ -240,7 +253,9 @@ pub extern "C" fn mcos_build_string_filewrapper_metadata(
     length: &mut u64,
     place: &mut u64,
 ) -> u32
-    ensures { λ r. ⌜ ExportsList (λ x. x) (buildMetadata «object_count») (now (blob .entry)) (now (length .entry)) (now (place .entry)) r (now (blob .exit)) (now (length .exit)) (now (place .exit)) ⌝ }
+    ensures { λ r. ⌜ (
+        ExportsList (λ x. x) (buildMetadata «object_count») (now (blob .entry)) (now (length .entry)) (now (place .entry))
+        r (now (blob .exit)) (now (length .exit)) (now (place .exit))) ⌝ }
 {
     put_length(
         string_object::build_string_filewrapper_metadata(object_count, blob),
@@ -272,7 +287,9 @@ fn layout_of(w: FileWrapper) -> [u64; 13]
 
 #[no_mangle]
 pub extern "C" fn mcos_parse(blob: &[u8], layout: &mut [u64; 13], place: &mut u64) -> u32
-    ensures { λ r. ⌜ Exports layoutOf (opened (now (blob .entry))) (now (layout .entry)) (now (place .entry)) r (now (layout .exit)) (now (place .exit)) ⌝ }
+    ensures { λ r. ⌜ (
+        Exports layoutOf (opened (now (blob .entry))) (now (layout .entry)) (now (place .entry))
+        r (now (layout .exit)) (now (place .exit))) ⌝ }
 {
     match FileWrapper::parse(blob) {
         ParseReply::Parsed(w) => {
@@ -291,7 +308,10 @@ pub extern "C" fn mcos_name(
     bytes: &mut u64,
     place: &mut u64,
 ) -> u32
-    ensures { λ r. ⌜ ExportsList (λ x. x) (intoOutput (nameText (now (blob .entry)) index)) (now (text .entry)) (now (bytes .entry)) (now (place .entry)) r (now (text .exit)) (now (bytes .exit)) (now (place .exit)) ⌝ }
+    ensures { λ r. ⌜ (
+        ExportsList (λ x. x) (intoOutput (nameText (now (blob .entry)) index))
+        (now (text .entry)) (now (bytes .entry)) (now (place .entry))
+        r (now (text .exit)) (now (bytes .exit)) (now (place .exit))) ⌝ }
 {
     put_name(names::name(blob, index, text), bytes, place)
 }
@@ -342,7 +362,10 @@ pub extern "C" fn mcos_class_name(
     bytes: &mut u64,
     place: &mut u64,
 ) -> u32
-    ensures { λ r. ⌜ ExportsList (λ x. x) (intoOutput (classText (now (blob .entry)) «class_id»)) (now (text .entry)) (now (bytes .entry)) (now (place .entry)) r (now (text .exit)) (now (bytes .exit)) (now (place .exit)) ⌝ }
+    ensures { λ r. ⌜ (
+        ExportsList (λ x. x) (intoOutput (classText (now (blob .entry)) «class_id»))
+        (now (text .entry)) (now (bytes .entry)) (now (place .entry))
+        r (now (text .exit)) (now (bytes .exit)) (now (place .exit))) ⌝ }
 {
     put_name(classes::class_name(blob, class_id, text), bytes, place)
 }
@@ -355,7 +378,10 @@ pub extern "C" fn mcos_object_class_name(
     bytes: &mut u64,
     place: &mut u64,
 ) -> u32
-    ensures { λ r. ⌜ ExportsList (λ x. x) (intoOutput (objectClassText (now (blob .entry)) «object_id»)) (now (text .entry)) (now (bytes .entry)) (now (place .entry)) r (now (text .exit)) (now (bytes .exit)) (now (place .exit)) ⌝ }
+    ensures { λ r. ⌜ (
+        let outcome = intoOutput (objectClassText (now (blob .entry)) «object_id») in
+        ExportsList (λ x. x) outcome (now (text .entry)) (now (bytes .entry)) (now (place .entry))
+        r (now (text .exit)) (now (bytes .exit)) (now (place .exit))) ⌝ }
 {
     put_name(
         classes::object_class_name(blob, object_id, text),
@@ -389,7 +415,10 @@ pub extern "C" fn mcos_find_property(
     position: &mut u64,
     place: &mut u64,
 ) -> u32
-    ensures { λ r. ⌜ ExportsFound (findProperty (now (blob .entry)) «object_id» (now (wanted .entry))) (now (found .entry)) (now (position .entry)) (now (place .entry)) r (now (found .exit)) (now (position .exit)) (now (place .exit)) ⌝ }
+    ensures { λ r. ⌜ (
+        ExportsFound (findProperty (now (blob .entry)) «object_id» (now (wanted .entry)))
+        (now (found .entry)) (now (position .entry)) (now (place .entry))
+        r (now (found .exit)) (now (position .exit)) (now (place .exit))) ⌝ }
 {
     match find::find_property(blob, object_id, wanted) {
         FindReply::Found(i) => {
@@ -412,7 +441,10 @@ pub extern "C" fn mcos_list_objects(
     count: &mut u64,
     place: &mut u64,
 ) -> u32
-    ensures { λ r. ⌜ ExportsList (λ x. x) (intoOutput (objectRows (now (blob .entry)))) (now (rows .entry)) (now (count .entry)) (now (place .entry)) r (now (rows .exit)) (now (count .exit)) (now (place .exit)) ⌝ }
+    ensures { λ r. ⌜ (
+        ExportsList (λ x. x) (intoOutput (objectRows (now (blob .entry))))
+        (now (rows .entry)) (now (count .entry)) (now (place .entry))
+        r (now (rows .exit)) (now (count .exit)) (now (place .exit))) ⌝ }
 {
     put_length(listing::list_objects(blob, rows), count, place)
 }
@@ -425,7 +457,10 @@ pub extern "C" fn mcos_parse_opaque_metadata(
     class_id: &mut u32,
     place: &mut u64,
 ) -> u32
-    ensures { λ r. ⌜ Exports (λ x. x) (opaqueMetadata (now (metadata .entry))) (opaqueCells (now («first_id» .entry)) (now (ids .entry)) (now («class_id» .entry))) (now (place .entry)) r (opaqueCells (now («first_id» .exit)) (now (ids .exit)) (now («class_id» .exit))) (now (place .exit)) ⌝ }
+    ensures { λ r. ⌜ (
+        let cells = opaqueCells (now («first_id» .entry)) (now (ids .entry)) (now («class_id» .entry)) in
+        let cells' = opaqueCells (now («first_id» .exit)) (now (ids .exit)) (now («class_id» .exit)) in
+        Exports (λ x. x) (opaqueMetadata (now (metadata .entry))) cells (now (place .entry)) r cells' (now (place .exit))) ⌝ }
 {
     match opaque::parse_opaque_metadata(metadata) {
         OpaqueReply::Parsed(m) => {
@@ -447,7 +482,10 @@ pub extern "C" fn mcos_decode_string_saveobj(
     strings: &mut u64,
     place: &mut u64,
 ) -> u32
-    ensures { λ r. ⌜ ExportsStrings (intoStrings (decodePayload (now (payload .entry)))) (now (text .entry)) (now (spans .entry)) (countCells (now (bytes .entry)) (now (strings .entry))) (now (place .entry)) r (now (text .exit)) (now (spans .exit)) (countCells (now (bytes .exit)) (now (strings .exit))) (now (place .exit)) ⌝ }
+    ensures { λ r. ⌜ (
+        ExportsStrings (intoStrings (decodePayload (now (payload .entry))))
+        (now (text .entry)) (now (spans .entry)) (countCells (now (bytes .entry)) (now (strings .entry))) (now (place .entry))
+        r (now (text .exit)) (now (spans .exit)) (countCells (now (bytes .exit)) (now (strings .exit))) (now (place .exit))) ⌝ }
 {
     put_strings(
         saveobj::decode_string_saveobj(payload, text, spans),
@@ -470,7 +508,11 @@ pub extern "C" fn mcos_decode_string(
     strings: &mut u64,
     place: &mut u64,
 ) -> u32
-    ensures { λ r. ⌜ ExportsStrings (intoStrings (metadataStrings (now (blob .entry)) (now (directory .entry)) (now (kinds .entry)) (now (words .entry)) (now (metadata .entry)))) (now (text .entry)) (now (spans .entry)) (countCells (now (bytes .entry)) (now (strings .entry))) (now (place .entry)) r (now (text .exit)) (now (spans .exit)) (countCells (now (bytes .exit)) (now (strings .exit))) (now (place .exit)) ⌝ }
+    ensures { λ r. ⌜ (
+        let cells = metadataStrings (now (blob .entry)) (now (directory .entry)) (now (kinds .entry)) (now (words .entry)) in
+        ExportsStrings (intoStrings (cells (now (metadata .entry))))
+        (now (text .entry)) (now (spans .entry)) (countCells (now (bytes .entry)) (now (strings .entry))) (now (place .entry))
+        r (now (text .exit)) (now (spans .exit)) (countCells (now (bytes .exit)) (now (strings .exit))) (now (place .exit))) ⌝ }
 {
     put_strings(
         decode::decode_string(blob, directory, kinds, words, metadata, text, spans),
@@ -493,7 +535,11 @@ pub extern "C" fn mcos_decode_string_object(
     strings: &mut u64,
     place: &mut u64,
 ) -> u32
-    ensures { λ r. ⌜ ExportsStrings (intoStrings (objectStrings (now (blob .entry)) (now (directory .entry)) (now (kinds .entry)) (now (words .entry)) «object_id»)) (now (text .entry)) (now (spans .entry)) (countCells (now (bytes .entry)) (now (strings .entry))) (now (place .entry)) r (now (text .exit)) (now (spans .exit)) (countCells (now (bytes .exit)) (now (strings .exit))) (now (place .exit)) ⌝ }
+    ensures { λ r. ⌜ (
+        let cells = objectStrings (now (blob .entry)) (now (directory .entry)) (now (kinds .entry)) (now (words .entry)) in
+        ExportsStrings (intoStrings (cells «object_id»))
+        (now (text .entry)) (now (spans .entry)) (countCells (now (bytes .entry)) (now (strings .entry))) (now (place .entry))
+        r (now (text .exit)) (now (spans .exit)) (countCells (now (bytes .exit)) (now (strings .exit))) (now (place .exit))) ⌝ }
 {
     put_strings(
         string_objects::decode_string_object(blob, directory, kinds, words, object_id, text, spans),
@@ -516,7 +562,11 @@ pub extern "C" fn mcos_append(
     spans: &[u64],
     place: &mut u64,
 ) -> u32
-    ensures { λ r. ⌜ ExportsEdit (storeIn (now (counts .entry)) (now (blob .entry)) (now (directory .entry)) (now (kinds .entry)) (now (words .entry))) (appended (storeIn (now (counts .entry)) (now (blob .entry)) (now (directory .entry)) (now (kinds .entry)) (now (words .entry))) (now (dims .entry)) (now (text .entry)) (now (spans .entry))) (now (place .entry)) r (storeIn (now (counts .exit)) (now (blob .exit)) (now (directory .exit)) (now (kinds .exit)) (now (words .exit))) (now (place .exit)) ⌝ }
+    ensures { λ r. ⌜ (
+        let s = storeIn (now (counts .entry)) (now (blob .entry)) (now (directory .entry)) (now (kinds .entry)) (now (words .entry)) in
+        let t = storeIn (now (counts .exit)) (now (blob .exit)) (now (directory .exit)) (now (kinds .exit)) (now (words .exit)) in
+        ExportsEdit s (appended s (now (dims .entry)) (now (text .entry)) (now (spans .entry)))
+        (now (place .entry)) r t (now (place .exit))) ⌝ }
 {
     put_edit(
         append::append_at(
@@ -549,7 +599,11 @@ pub extern "C" fn mcos_replace(
     spans: &[u64],
     place: &mut u64,
 ) -> u32
-    ensures { λ r. ⌜ ExportsEdit (storeIn (now (counts .entry)) (now (blob .entry)) (now (directory .entry)) (now (kinds .entry)) (now (words .entry))) (replaced (storeIn (now (counts .entry)) (now (blob .entry)) (now (directory .entry)) (now (kinds .entry)) (now (words .entry))) «object_id» (now (dims .entry)) (now (text .entry)) (now (spans .entry))) (now (place .entry)) r (storeIn (now (counts .exit)) (now (blob .entry)) (now (directory .exit)) (now (kinds .entry)) (now (words .exit))) (now (place .exit)) ⌝ }
+    ensures { λ r. ⌜ (
+        let s = storeIn (now (counts .entry)) (now (blob .entry)) (now (directory .entry)) (now (kinds .entry)) (now (words .entry)) in
+        let t = storeIn (now (counts .exit)) (now (blob .entry)) (now (directory .exit)) (now (kinds .entry)) (now (words .exit)) in
+        ExportsEdit s (replaced s «object_id» (now (dims .entry)) (now (text .entry)) (now (spans .entry)))
+        (now (place .entry)) r t (now (place .exit))) ⌝ }
 {
     put_edit(
         replace::replace_at(

@@ -77,7 +77,9 @@ pub(crate) fn cell_at(
     place: u32,
 ) -> CellReply
     requires { ⌜ IsDirectory (now directory) (now kinds) (length (now words)) ⌝ }
-    ensures { λ r. ⌜ ReadsCell (cellAt (now (directory .entry)) (now (kinds .entry)) (now (words .entry)) entry place) (now (words .entry)) r ⌝ }
+    ensures { λ r. ⌜ (
+        let cell = cellAt (now (directory .entry)) (now (kinds .entry)) (now (words .entry)) entry place in
+        ReadsCell cell (now (words .entry)) r) ⌝ }
 {
     let j = entry as usize;
     if directory.len() / 2 <= j {

@@ -55,7 +55,10 @@ fn put_piece(blob: &[u8], piece: Piece, text: &mut [u8], at: usize) -> usize
 // Namespace, full stop, name.
 fn write_joined(blob: &[u8], namespace: Piece, name: Piece, text: &mut [u8]) -> NameReply
     requires { ⌜ BothInBlob (now blob) «namespace» name ⌝ }
-    ensures { λ r. ⌜ WritesText (ok (lossy (pieceBytes (now (blob .entry)) «namespace») ++ 0x2E ∷ lossy (pieceBytes (now (blob .entry)) name))) (now (text .entry)) r (now (text .exit)) ⌝ }
+    ensures { λ r. ⌜ (
+        let first = lossy (pieceBytes (now (blob .entry)) «namespace») in
+        let second = lossy (pieceBytes (now (blob .entry)) name) in
+        WritesText (ok (first ++ 0x2E ∷ second)) (now (text .entry)) r (now (text .exit))) ⌝ }
 {
     let stop = piece_length(blob, namespace);
     let need = stop + 1 + piece_length(blob, name);

@@ -24,7 +24,8 @@ ghost use Rattle.reader.specs.Stages.Saveobj.{origin, WritesAt};
 // Checks 14, 15 and 22 to 29 for one id, and what its strings need.
 fn measure_id(directory: &[u64], kinds: &[u8], words: &[u64], id: u32) -> StringsReply
     requires { ⌜ IsDirectory (now directory) (now kinds) (length (now words)) ⌝ }
-    ensures { λ r. ⌜ stringsReplyOf r ≡ mapResult sizeOf (idStrings (now (directory .entry)) (now (kinds .entry)) (now (words .entry)) id) ⌝ }
+    ensures { λ r. ⌜ (
+        stringsReplyOf r ≡ mapResult sizeOf (idStrings (now (directory .entry)) (now (kinds .entry)) (now (words .entry)) id)) ⌝ }
 {
     match cell_of(directory, kinds, words, id) {
         CellReply::Cell { start, end } => measure_saveobj(&words[start..end]),
@@ -42,7 +43,9 @@ fn measure_ids(
     n: usize,
 ) -> StringsReply
     requires { ⌜ IdsThere (now directory) (now kinds) (now words) (now metadata) first n ⌝ }
-    ensures { λ r. ⌜ stringsReplyOf r ≡ mapResult sizeOf (idsStrings (now (directory .entry)) (now (kinds .entry)) (now (words .entry)) (now (metadata .entry)) first n) ⌝ }
+    ensures { λ r. ⌜ (
+        let cells = idsStrings (now (directory .entry)) (now (kinds .entry)) (now (words .entry)) in
+        stringsReplyOf r ≡ mapResult sizeOf (cells (now (metadata .entry)) first n)) ⌝ }
 {
     let mut bytes: usize = 0;
     let mut strings: usize = 0;
@@ -77,7 +80,9 @@ fn put_id(
     at: Position,
 ) -> Position
     requires { ⌜ IdFits (now directory) (now kinds) (now words) id (length (now text)) (length (now spans)) at ⌝ }
-    ensures { λ r. ⌜ WritesAt (idStrings (now (directory .entry)) (now (kinds .entry)) (now (words .entry)) id) at (now (text .entry)) (now (spans .entry)) r (now (text .exit)) (now (spans .exit)) ⌝ }
+    ensures { λ r. ⌜ (
+        let strings = idStrings (now (directory .entry)) (now (kinds .entry)) (now (words .entry)) id in
+        WritesAt strings at (now (text .entry)) (now (spans .entry)) r (now (text .exit)) (now (spans .exit))) ⌝ }
 {
     match cell_of(directory, kinds, words, id) {
         CellReply::Cell { start, end } => put_payload(&words[start..end], text, spans, at),
@@ -97,7 +102,10 @@ fn put_ids(
     spans: &mut [u64],
 ) -> Position
     requires { ⌜ IdsFit (now directory) (now kinds) (now words) (now metadata) first n (length (now text)) (length (now spans)) ⌝ }
-    ensures { λ r. ⌜ WritesAt (idsStrings (now (directory .entry)) (now (kinds .entry)) (now (words .entry)) (now (metadata .entry)) first n) origin (now (text .entry)) (now (spans .entry)) r (now (text .exit)) (now (spans .exit)) ⌝ }
+    ensures { λ r. ⌜ (
+        let cells = idsStrings (now (directory .entry)) (now (kinds .entry)) (now (words .entry)) in
+        let strings = cells (now (metadata .entry)) first n in
+        WritesAt strings origin (now (text .entry)) (now (spans .entry)) r (now (text .exit)) (now (spans .exit))) ⌝ }
 {
     let mut at = Position { byte: 0, string: 0 };
     let mut i: usize = 0;
@@ -148,7 +156,10 @@ pub fn decode_string(
     text: &mut [u8],
     spans: &mut [u64],
 ) -> StringsReply
-    ensures { λ r. ⌜ DecodesStrings (metadataStrings (now (blob .entry)) (now (directory .entry)) (now (kinds .entry)) (now (words .entry)) (now (metadata .entry))) (now (text .entry)) (now (spans .entry)) r (now (text .exit)) (now (spans .exit)) ⌝ }
+    ensures { λ r. ⌜ (
+        let cells = metadataStrings (now (blob .entry)) (now (directory .entry)) (now (kinds .entry)) (now (words .entry)) in
+        let strings = cells (now (metadata .entry)) in
+        DecodesStrings strings (now (text .entry)) (now (spans .entry)) r (now (text .exit)) (now (spans .exit))) ⌝ }
 {
     if let ParseReply::Error(e) = FileWrapper::parse(blob) {
         return StringsReply::Error(e);

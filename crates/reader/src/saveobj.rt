@@ -199,7 +199,9 @@ fn put_strings(
     index: usize,
 ) -> usize
     requires { ⌜ StringsFit (now payload) base n start (length (now text)) index (length (now spans)) ⌝ }
-    ensures { λ r. ⌜ WritesStrings (storedStrings (now (payload .entry)) base n 0 n) start index (now (text .entry)) (now (spans .entry)) r (now (text .exit)) (now (spans .exit)) ⌝ }
+    ensures { λ r. ⌜ (
+        WritesStrings (storedStrings (now (payload .entry)) base n 0 n) start index (now (text .entry)) (now (spans .entry))
+        r (now (text .exit)) (now (spans .exit))) ⌝ }
 {
     let first = base + n;
     let mut byte = start;
@@ -231,7 +233,9 @@ pub(crate) fn put_payload(
     at: Position,
 ) -> Position
     requires { ⌜ FitsAt (decodePayload (now payload)) (length (now text)) (length (now spans)) at ⌝ }
-    ensures { λ r. ⌜ WritesAt (decodePayload (now (payload .entry))) at (now (text .entry)) (now (spans .entry)) r (now (text .exit)) (now (spans .exit)) ⌝ }
+    ensures { λ r. ⌜ (
+        WritesAt (decodePayload (now (payload .entry))) at (now (text .entry)) (now (spans .entry))
+        r (now (text .exit)) (now (spans .exit))) ⌝ }
 {
     match read_header(payload) {
         HeaderReply::Header { base, strings } => {

@@ -79,7 +79,9 @@ fn decode_property(
     spans: &mut [u64],
 ) -> StringsReply
     requires { ⌜ IsDirectory (now directory) (now kinds) (length (now words)) ⌝ }
-    ensures { λ r. ⌜ DecodesStrings (propertyStrings (now (directory .entry)) (now (kinds .entry)) (now (words .entry)) property) (now (text .entry)) (now (spans .entry)) r (now (text .exit)) (now (spans .exit)) ⌝ }
+    ensures { λ r. ⌜ (
+        let strings = propertyStrings (now (directory .entry)) (now (kinds .entry)) (now (words .entry)) property in
+        DecodesStrings strings (now (text .entry)) (now (spans .entry)) r (now (text .exit)) (now (spans .exit))) ⌝ }
 {
     if property.field_type != 1 {
         return StringsReply::Error(MatError::NotStringObject(1));
@@ -117,7 +119,10 @@ pub fn decode_string_object(
     text: &mut [u8],
     spans: &mut [u64],
 ) -> StringsReply
-    ensures { λ r. ⌜ DecodesStrings (objectStrings (now (blob .entry)) (now (directory .entry)) (now (kinds .entry)) (now (words .entry)) «object_id») (now (text .entry)) (now (spans .entry)) r (now (text .exit)) (now (spans .exit)) ⌝ }
+    ensures { λ r. ⌜ (
+        let cells = objectStrings (now (blob .entry)) (now (directory .entry)) (now (kinds .entry)) (now (words .entry)) in
+        let strings = cells «object_id» in
+        DecodesStrings strings (now (text .entry)) (now (spans .entry)) r (now (text .exit)) (now (spans .exit))) ⌝ }
 {
     match FileWrapper::parse(blob) {
         ParseReply::Parsed(w) => {

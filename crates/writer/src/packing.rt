@@ -184,7 +184,9 @@ fn push_string(
     carry: Carry,
 ) -> Carry
     requires { ⌜ StringFits (now text) (now spans) i first (carry .count) (length (now words)) ⌝ }
-    ensures { λ r. ⌜ Pushed first (now (words .entry)) carry (stringUnits (stringAt (now (text .entry)) (now (spans .entry)) i)) (now (words .exit)) r ⌝ }
+    ensures { λ r. ⌜ (
+        let units = stringUnits (stringAt (now (text .entry)) (now (spans .entry)) i) in
+        Pushed first (now (words .entry)) carry units (now (words .exit)) r) ⌝ }
 {
     let start = to_usize(spans[2 * i]);
     let end = start + to_usize(spans[2 * i + 1]);
@@ -194,7 +196,8 @@ fn push_string(
 // Writes the lengths of the strings from index base on, and after them their units.
 pub(crate) fn put_strings(text: &[u8], spans: &[u64], words: &mut [u64], base: usize)
     requires { ⌜ StringsFit (now text) (now spans) base (length (now words)) ⌝ }
-    ensures { λ _. ⌜ now (words .exit) ≡ put (now (words .entry)) base (stringWords (stringsIn (now (text .entry)) (now (spans .entry)))) ⌝ }
+    ensures { λ _. ⌜ (
+        now (words .exit) ≡ put (now (words .entry)) base (stringWords (stringsIn (now (text .entry)) (now (spans .entry))))) ⌝ }
 {
     let n = spans.len() / 2;
     let first = base + n;

@@ -67,7 +67,8 @@ pub fn encode_string_saveobj_payload(
     spans: &[u64],
     words: &mut [u64],
 ) -> LengthReply
-    ensures { λ r. ⌜ EncodesPayload (now (dims .entry)) (now (text .entry)) (now (spans .entry)) (now (words .entry)) r (now (words .exit)) ⌝ }
+    ensures { λ r. ⌜ (
+        EncodesPayload (now (dims .entry)) (now (text .entry)) (now (spans .entry)) (now (words .entry)) r (now (words .exit))) ⌝ }
 {
     match measure_payload(dims, text, spans) {
         LengthReply::Length(n) => {
@@ -84,7 +85,9 @@ pub fn encode_string_saveobj_payload(
 // Writes a payload that was measured.
 fn put_payload(dims: &[u64], text: &[u8], spans: &[u64], words: &mut [u64])
     requires { ⌜ PayloadFits (now dims) (now text) (now spans) (length (now words)) ⌝ }
-    ensures { λ _. ⌜ now (words .exit) ≡ put (now (words .entry)) 0 (payload (arrayIn (now (dims .entry)) (now (text .entry)) (now (spans .entry)))) ⌝ }
+    ensures { λ _. ⌜ (
+        now (words .exit) ≡ put (now (words .entry)) 0
+        (payload (arrayIn (now (dims .entry)) (now (text .entry)) (now (spans .entry))))) ⌝ }
 {
     words[0] = MATLAB_STRING_SAVEOBJ_VERSION;
     words[1] = dims.len() as u64;
