@@ -14,11 +14,10 @@ use Rattle.text.specs.Buffer.{over, put, Puts}
 use Rattle.text.specs.Result.{ok}
 use Rattle.text.specs.declared.error.MatError.{MatError}
 use Rattle.text.proofs.BufferLaws.{part-put, length-put}
-use Rattle.printing.specs.Lines.{escaped, lineText}
-use Rattle.reader.specs.Replies.{WritesText}
+use Rattle.printing.specs.Lines.{escaped, lineText, WritesPart}
 use Rattle.printing.specs.declared.lines.LinePart.{LinePart}
-use Rattle.reader.specs.declared.names.NameReply.{NameReply}
-use Rattle.reader.specs.declared.names.NameReply.the-variants as name
+use Rattle.text.specs.declared.reply.LengthReply.{LengthReply}
+use Rattle.text.specs.declared.reply.LengthReply.the-variants as reply
 use Rattle.printing.proofs.lines.Laws.{escaped-most, part-most, text-puts, text-never}
 use Rattle.printing.specs.Output.{startOf, Ready, Adds, MakesRoom, Copies}
 use Rattle.printing.specs.declared.output.Output.{Output}
@@ -40,24 +39,24 @@ module _ (p : LinePart) (out : List ℕ) (h : 4096 ≤ length out) where
   part-fits : length (lineText p) ≤ length out
   part-fits = omega (arith, part-most p)
 
-  pub part-copied : {x : NameReply} {out' : List ℕ} {n : ℕ} → x ≡ name.Text n → WritesText (ok (lineText p)) out x out' → Copies (lineText p) out n out'
+  pub part-copied : {x : LengthReply} {out' : List ℕ} {n : ℕ} → x ≡ reply.Length n → WritesPart (lineText p) out x out' → Copies (lineText p) out n out'
   part-copied g w =
       let q = text-puts (lineText p) out part-fits g w in
       record { puts = q; few = omega (arith, q .end, part-most p) }
 
-  pub part-never : {x : NameReply} {out' : List ℕ} {e : MatError} → x ≡ name.Error e → WritesText (ok (lineText p)) out x out' → Copies (lineText p) out 0 out'
+  pub part-never : {x : LengthReply} {out' : List ℕ} {e : MatError} → x ≡ reply.Error e → WritesPart (lineText p) out x out' → Copies (lineText p) out 0 out'
   part-never g w = record { puts = text-never (lineText p) out part-fits g w; few = omega arith }
 
 module _ (s out : List ℕ) (l : length s ≤ 1365) (h : 4096 ≤ length out) where
   shown-fits : length (escaped s) ≤ length out
   shown-fits = omega (arith, escaped-most s)
 
-  pub chunk-copied : {x : NameReply} {out' : List ℕ} {n : ℕ} → x ≡ name.Text n → WritesText (ok (escaped s)) out x out' → Copies (escaped s) out n out'
+  pub chunk-copied : {x : LengthReply} {out' : List ℕ} {n : ℕ} → x ≡ reply.Length n → WritesPart (escaped s) out x out' → Copies (escaped s) out n out'
   chunk-copied g w =
       let q = text-puts (escaped s) out shown-fits g w in
       record { puts = q; few = omega (arith, q .end, escaped-most s) }
 
-  pub chunk-never : {x : NameReply} {out' : List ℕ} {e : MatError} → x ≡ name.Error e → WritesText (ok (escaped s)) out x out' → Copies (escaped s) out 0 out'
+  pub chunk-never : {x : LengthReply} {out' : List ℕ} {e : MatError} → x ≡ reply.Error e → WritesPart (escaped s) out x out' → Copies (escaped s) out 0 out'
   chunk-never g w = record { puts = text-never (escaped s) out shown-fits g w; few = omega arith }
 
 -- ---- a text in the part of the buffer that is free

@@ -6,7 +6,11 @@ use mathlib.Core.Bool.{Bool, cond, not, _&&_}
 use mathlib.Core.List.{List, [], _∷_, _++_, flatMap}
 use lib.Dec.{ltb, eqb}
 use lib.ListN.{length}
+use Rattle.text.specs.Replies.{lengthReplyOf}
+use Rattle.text.specs.Result.{ok, mapResult, overwritten}
 use Rattle.text.specs.Unicode.{within}
+use Rattle.text.specs.declared.reply.LengthReply.{LengthReply}
+use Rattle.reader.specs.Queries.{intoOutput}
 use Rattle.printing.specs.declared.lines.LinePart.{LinePart}
 use Rattle.printing.specs.declared.lines.LinePart.the-variants as part
 
@@ -66,3 +70,8 @@ lineText (part.Inline v) = numbered (0x20 ∷ 0x69 ∷ 0x6E ∷ 0x6C ∷ 0x69 �
 lineText part.Name = 0x20 ∷ 0x6E ∷ 0x61 ∷ 0x6D ∷ 0x65 ∷ 0x20 ∷ []
 -- the end of a line
 lineText part.End = 0x0A ∷ []
+
+-- a call that writes a text to the start of an output, or refuses with 34
+pub record WritesPart (w out : List ℕ) (r : LengthReply) (out' : List ℕ) : Type 0 where
+  pub reply : lengthReplyOf r ≡ mapResult length (intoOutput (ok w) (length out))
+  pub buffer : out' ≡ overwritten (λ t. t) (intoOutput (ok w) (length out)) out

@@ -1,14 +1,13 @@
 // The lines of a listing, part by part.
-use reader::names::NameReply;
 use text::copy::copy_bytes;
 use text::error::MatError;
+use text::reply::LengthReply;
 ghost use mathlib.Core.Path.{_≡_};
 ghost use Prim.Native.Nat.{_+_, _^_, _≤_, _<_};
 ghost use lib.ListN.{length};
 ghost use Rattle.text.specs.Buffer.{Puts};
-ghost use Rattle.text.specs.Result.{ok, needPlace};
-ghost use Rattle.printing.specs.Lines.{isPlain, hexDigit, escape, escaped, decimal, CountsDigits, numbered, lineText};
-ghost use Rattle.reader.specs.Replies.{WritesText};
+ghost use Rattle.text.specs.Result.{needPlace};
+ghost use Rattle.printing.specs.Lines.{isPlain, hexDigit, escape, escaped, decimal, CountsDigits, numbered, lineText, WritesPart};
 
 // A part of a line other than a name.
 pub enum LinePart {
@@ -106,14 +105,14 @@ fn put_escaped(name: &[u8], out: &mut [u8]) -> usize
 }
 
 // The bytes of a name as a line shows them, at the start of out.
-pub fn write_escaped(name: &[u8], out: &mut [u8]) -> NameReply
-    ensures { λ r. ⌜ WritesText (ok (escaped (now (name .entry)))) (now (out .entry)) r (now (out .exit)) ⌝ }
+pub fn write_escaped(name: &[u8], out: &mut [u8]) -> LengthReply
+    ensures { λ r. ⌜ WritesPart (escaped (now (name .entry))) (now (out .entry)) r (now (out .exit)) ⌝ }
 {
     let need = escaped_need(name);
     if out.len() < need {
-        return NameReply::Error(MatError::OutputTooShort(need as u64));
+        return LengthReply::Error(MatError::OutputTooShort(need as u64));
     }
-    NameReply::Text(put_escaped(name, out))
+    LengthReply::Length(put_escaped(name, out))
 }
 
 // The number of decimal digits of a value.
@@ -147,33 +146,33 @@ fn put_decimal(value: u32, out: &mut [u8], at: usize) -> usize
 }
 
 // A word at the start of out.
-fn write_word(word: &[u8], out: &mut [u8]) -> NameReply
-    ensures { λ r. ⌜ WritesText (ok (now (word .entry))) (now (out .entry)) r (now (out .exit)) ⌝ }
+fn write_word(word: &[u8], out: &mut [u8]) -> LengthReply
+    ensures { λ r. ⌜ WritesPart (now (word .entry)) (now (out .entry)) r (now (out .exit)) ⌝ }
 {
     let need = word.len();
     if out.len() < need {
-        return NameReply::Error(MatError::OutputTooShort(need as u64));
+        return LengthReply::Error(MatError::OutputTooShort(need as u64));
     }
-    NameReply::Text(copy_bytes(word, out, 0))
+    LengthReply::Length(copy_bytes(word, out, 0))
 }
 
 // A number between two words, at the start of out. The words are short, so that the need fits 64 bits.
-fn write_numbered(start: &[u8], value: u32, end: &[u8], out: &mut [u8]) -> NameReply
+fn write_numbered(start: &[u8], value: u32, end: &[u8], out: &mut [u8]) -> LengthReply
     requires { ⌜ length (now start) + length (now end) < 2 ^ 32 ⌝ }
-    ensures { λ r. ⌜ WritesText (ok (numbered (now (start .entry)) value (now (end .entry)))) (now (out .entry)) r (now (out .exit)) ⌝ }
+    ensures { λ r. ⌜ WritesPart (numbered (now (start .entry)) value (now (end .entry))) (now (out .entry)) r (now (out .exit)) ⌝ }
 {
     let need = start.len() + decimal_length(value) + end.len();
     if out.len() < need {
-        return NameReply::Error(MatError::OutputTooShort(need as u64));
+        return LengthReply::Error(MatError::OutputTooShort(need as u64));
     }
     copy_bytes(start, out, 0);
     let rest = put_decimal(value, out, start.len());
-    NameReply::Text(copy_bytes(end, out, rest))
+    LengthReply::Length(copy_bytes(end, out, rest))
 }
 
 // A part of a line at the start of out.
-pub fn write_part(part: LinePart, out: &mut [u8]) -> NameReply
-    ensures { λ r. ⌜ WritesText (ok (lineText part)) (now (out .entry)) r (now (out .exit)) ⌝ }
+pub fn write_part(part: LinePart, out: &mut [u8]) -> LengthReply
+    ensures { λ r. ⌜ WritesPart (lineText part) (now (out .entry)) r (now (out .exit)) ⌝ }
 {
     match part {
         LinePart::Names(n) => write_numbered(b"names ", n, b"\n", out),

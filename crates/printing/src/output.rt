@@ -3,7 +3,7 @@ use crate::lines::LinePart;
 use crate::lines::write_escaped;
 use crate::lines::write_part;
 use libc::STDOUT_FILENO;
-use reader::names::NameReply;
+use text::reply::LengthReply;
 ghost use mathlib.Core.Path.{_≡_};
 ghost use Prim.Native.Nat.{_+_, _≤_, _<_};
 ghost use lib.ListN.{length};
@@ -71,9 +71,9 @@ fn copy_part(part: LinePart, out: &mut [u8]) -> usize
     ensures { λ r. ⌜ Copies (lineText part) (now (out .entry)) r (now (out .exit)) ⌝ }
 {
     match write_part(part, out) {
-        NameReply::Text(n) => n,
+        LengthReply::Length(n) => n,
         // Cannot be: a part has at most 29 bytes.
-        NameReply::Error(_) => 0,
+        LengthReply::Error(_) => 0,
     }
 }
 
@@ -96,9 +96,9 @@ fn copy_escaped(chunk: &[u8], out: &mut [u8]) -> usize
     ensures { λ r. ⌜ Copies (escaped (now (chunk .entry))) (now (out .entry)) r (now (out .exit)) ⌝ }
 {
     match write_escaped(chunk, out) {
-        NameReply::Text(n) => n,
+        LengthReply::Length(n) => n,
         // Cannot be: three bytes show a byte.
-        NameReply::Error(_) => 0,
+        LengthReply::Error(_) => 0,
     }
 }
 

@@ -19,13 +19,13 @@ use Rattle.text.proofs.BufferLaws.{put-none, put-front, places-fits, places-fro
 use Rattle.text.proofs.ByteLaws.{stores}
 use Rattle.text.proofs.TestLaws.{cond-both, within-yes, within-under, within-over}
 use Rattle.writer.proofs.FileWrapperLaws.{puts-then, puts-length}
-use Rattle.printing.specs.Lines.{isPlain, hexDigit, escape, escaped, digits, decimal, CountsDigits, numbered, lineText}
+use Rattle.printing.specs.Lines.{isPlain, hexDigit, escape, escaped, digits, decimal, CountsDigits, numbered, lineText, WritesPart}
 use Rattle.reader.specs.Opening.{emptyWrapper}
-use Rattle.reader.specs.Replies.{nameReplyOf, WritesText}
+use Rattle.text.specs.Replies.{lengthReplyOf}
 use Rattle.printing.specs.declared.lines.LinePart.{LinePart}
 use Rattle.printing.specs.declared.lines.LinePart.the-variants as part
-use Rattle.reader.specs.declared.names.NameReply.{NameReply}
-use Rattle.reader.specs.declared.names.NameReply.the-variants as name
+use Rattle.text.specs.declared.reply.LengthReply.{LengthReply}
+use Rattle.text.specs.declared.reply.LengthReply.the-variants as reply
 
 -- ---- a byte of a name
 
@@ -267,17 +267,17 @@ module _ (value at : ℕ) {d₀ : List ℕ} where
 
 -- ---- a text at the start of an output
 
-pub text-short : (w out : List ℕ) {need : ℕ} → need ≡ needPlace (length w) → length out < need → WritesText (ok w) out (name.Error (OutputTooShort need)) out
+pub text-short : (w out : List ℕ) {need : ℕ} → need ≡ needPlace (length w) → length out < need → WritesPart w out (reply.Error (OutputTooShort need)) out
 text-short w out e h =
     let t : leb (length w) (length out) ≡ false = lt-leb (length w) (length out) (omega arith) in
     record { reply = simp (t, sym e); buffer = simp t }
 
-pub text-written : (w out : List ℕ) → length w ≤ length out → {n : ℕ} {out' : List ℕ} → Puts out 0 w n out' → WritesText (ok w) out (name.Text n) out'
+pub text-written : (w out : List ℕ) → length w ≤ length out → {n : ℕ} {out' : List ℕ} → Puts out 0 w n out' → WritesPart w out (reply.Length n) out'
 text-written w out h p =
     let t : leb (length w) (length out) ≡ true = le-leb (length w) (length out) h in
     record { reply = simp t (ap ok (omega (arith, p .end))); buffer = simp t (p .buffer ∙ put-front out w) }
 
-pub text-copied : (w out : List ℕ) → length w ≤ length out → {n : ℕ} {out' : List ℕ} → Places out 0 w n out' → WritesText (ok w) out (name.Text n) out'
+pub text-copied : (w out : List ℕ) → length w ≤ length out → {n : ℕ} {out' : List ℕ} → Places out 0 w n out' → WritesPart w out (reply.Length n) out'
 text-copied w out h p = text-written w out h (places-fits out 0 w (omega arith) p)
 
 module _ (start end out : List ℕ) (v : ℕ) {n : ℕ} (s : CountsDigits v n) where
@@ -285,11 +285,11 @@ module _ (start end out : List ℕ) (v : ℕ) {n : ℕ} (s : CountsDigits v n) w
   size = omega (arith, length-append (start ++ decimal v) end, length-append start (decimal v))
 
   pub numbered-short : length start + length end < 2 ^ 32 → length out < length start + n + length end
-      → WritesText (ok (numbered start v end)) out (name.Error (OutputTooShort (length start + n + length end))) out
+      → WritesPart (numbered start v end) out (reply.Error (OutputTooShort (length start + n + length end))) out
   numbered-short f h = text-short (numbered start v end) out (omega (arith, size)) h
 
   pub numbered-written : length start + n + length end ≤ length out → {a b r : ℕ} {d d' d'' : List ℕ}
-      → Places out 0 start a d → Puts d (length start) (decimal v) b d' → Places d' b end r d'' → WritesText (ok (numbered start v end)) out (name.Text r) d''
+      → Places out 0 start a d → Puts d (length start) (decimal v) b d' → Places d' b end r d'' → WritesPart (numbered start v end) out (reply.Length r) d''
   numbered-written h {d = d} {d' = d'} p q w =
       let f : Puts out 0 start (length start) d = record { end = omega arith; buffer = places-front out start (omega arith) p } in
       let g = puts-then f q (omega arith) in
@@ -299,24 +299,24 @@ module _ (start end out : List ℕ) (v : ℕ) {n : ℕ} (s : CountsDigits v n) w
       (puts-then g (places-fits d' _ end (omega (arith, g .end)) w) (omega arith))
 
 -- a text that fits is written
-module _ (t out : List ℕ) (h : length t ≤ length out) {r : NameReply} {out' : List ℕ} where
-  pub text-puts : {n : ℕ} → r ≡ name.Text n → WritesText (ok t) out r out' → Puts out 0 t n out'
+module _ (t out : List ℕ) (h : length t ≤ length out) {r : LengthReply} {out' : List ℕ} where
+  pub text-puts : {n : ℕ} → r ≡ reply.Length n → WritesPart t out r out' → Puts out 0 t n out'
   text-puts {n} g w =
       let f : leb (length t) (length out) ≡ true = le-leb (length t) (length out) h in
-      let e : nameReplyOf (name.Text n) ≡ ok (length t) = ap nameReplyOf (sym g) ∙ simp f at (w .reply) in
+      let e : lengthReplyOf (reply.Length n) ≡ ok (length t) = ap lengthReplyOf (sym g) ∙ simp f at (w .reply) in
       let z : n ≡ length t = cc in
       record { end = omega arith; buffer = simp f at (w .buffer) ∙ sym (put-front out t) }
 
   -- and never refused
-  pub text-never : {e : MatError} → r ≡ name.Error e → WritesText (ok t) out r out' → {n : ℕ} → Puts out 0 t n out'
+  pub text-never : {e : MatError} → r ≡ reply.Error e → WritesPart t out r out' → {n : ℕ} → Puts out 0 t n out'
   text-never {e} g w =
       let f : leb (length t) (length out) ≡ true = le-leb (length t) (length out) h in
-      let e : nameReplyOf (name.Error e) ≡ ok (length t) = ap nameReplyOf (sym g) ∙ simp f at (w .reply) in
+      let e : lengthReplyOf (reply.Error e) ≡ ok (length t) = ap lengthReplyOf (sym g) ∙ simp f at (w .reply) in
       let z : _≡_ {A = ℕ} 0 1 = cc in
       absurd (omega arith)
 
 -- a part that is told by its variant
-pub part-is : {x p : LinePart} → x ≡ p → {out out' : List ℕ} {r : NameReply} → WritesText (ok (lineText p)) out r out' → WritesText (ok (lineText x)) out r out'
+pub part-is : {x p : LinePart} → x ≡ p → {out out' : List ℕ} {r : LengthReply} → WritesPart (lineText p) out r out' → WritesPart (lineText x) out r out'
 part-is e t = rw e t
 
 -- ---- the most bytes that a text needs
