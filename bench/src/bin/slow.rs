@@ -1,5 +1,4 @@
-//! Times the calls that take more than linear time on files made to be slow;
-//! see README.md.
+//! Times calls on files made to be slow; see README.md.
 
 use std::time::Instant;
 
@@ -15,18 +14,17 @@ fn main() {
     let most = std::env::args().any(|word| word == "--most");
     println!("| what | seconds |");
     println!("|---|---:|");
-    for bytes in sizes(1_048_576, MOST_BYTES, most) {
-        listing(bytes, "in order", |id, blocks, objects| 1 + (id - 1) * (blocks - 2) / objects);
-        listing(bytes, "falling", |id, blocks, _| blocks - 1 - (id + 1) % 2);
+    for bytes in [1_048_576, MOST_BYTES] {
+        let in_order = listing(bytes, "in order", |id, blocks, objects| 1 + (id - 1) * (blocks - 2) / objects);
+        let falling = listing(bytes, "falling", |id, blocks, _| blocks - 1 - (id + 1) % 2);
+        let scattered = listing(bytes, "scattered", |id, blocks, _| 1 + id * 7_919 % (blocks - 1));
+        println!("| falling and scattered over in order | {:.1}, {:.1} |", falling / in_order, scattered / in_order);
     }
-    for words in sizes(5_837, MOST_WORDS, most) {
-        repeated(words);
+    repeated(5_837);
+    if most {
+        // The limit takes minutes.
+        repeated(MOST_WORDS);
     }
-}
-
-/// A size that takes seconds, and the limit, which takes minutes.
-fn sizes(small: usize, limit: usize, most: bool) -> Vec<usize> {
-    if most { vec![small, limit] } else { vec![small] }
 }
 
 fn put_u32(blob: &mut [u8], at: usize, value: usize) {
@@ -35,8 +33,8 @@ fn put_u32(blob: &mut [u8], at: usize, value: usize) {
 
 /// The object listing of a blob that is half empty property blocks and half
 /// object records; `block_of` gives the block of an id among so many blocks
-/// and objects.
-fn listing(bytes: usize, label: &str, block_of: impl Fn(usize, usize, usize) -> usize) {
+/// and objects. The seconds that it takes.
+fn listing(bytes: usize, label: &str, block_of: impl Fn(usize, usize, usize) -> usize) -> f64 {
     let (heap_end, classes_end) = (48, 64);
     let objects = (bytes - classes_end) / 2 / 24;
     let blocks = (bytes - classes_end - 24 * objects) / 8;
@@ -56,7 +54,8 @@ fn listing(bytes: usize, label: &str, block_of: impl Fn(usize, usize, usize) -> 
     let start = Instant::now();
     let listed = mcos::list_objects(&blob, &mut rows).expect("a sound blob");
     let seconds = start.elapsed().as_secs_f64();
-    println!("| list {listed} objects, {blocks} blocks, {end} bytes, block ids {label} | {seconds:.3} |");
+    println!("| list {listed} objects, {blocks} blocks, {end} bytes, block ids {label} | {seconds:.4} |");
+    seconds
 }
 
 /// `decode_string` of as many ids as there is room for, all of one payload;

@@ -12,7 +12,7 @@ ghost use lib.Seq.{slice};
 ghost use Rattle.text.specs.Result.{ok};
 ghost use Rattle.text.specs.Utf8.{lossy};
 ghost use Rattle.reader.specs.Names.{pieces};
-ghost use Rattle.reader.specs.Stages.Names.{Counted, Skips, HasPiece, PieceAt, FirstPiece, HasName, IsName, pieceBytes, InBlob};
+ghost use Rattle.reader.specs.Stages.Names.{Counted, Skips, HasPiece, HasPieceAt, FirstPiece, HasName, IsName, pieceBytes, InBlob};
 ghost use Rattle.reader.specs.Queries.{nameText};
 ghost use Rattle.reader.specs.Replies.{WritesText};
 
@@ -91,7 +91,7 @@ pub(crate) struct Piece {
 // Where piece index, from 1, of the bytes from byte 40 up to end begins.
 pub(crate) fn piece_start(blob: &[u8], end: usize, index: usize) -> usize
     requires { ⌜ HasPiece (now blob) end index ⌝ }
-    ensures { λ r. ⌜ PieceAt (now (blob .entry)) end index r ⌝ }
+    ensures { λ r. ⌜ HasPieceAt (now (blob .entry)) end index r ⌝ }
 {
     if index == 1 {
         return HEADER;

@@ -25,7 +25,7 @@ use Rattle.text.proofs.TestLaws.{either}
 use Rattle.text.proofs.Utf8Laws.{lossy-same, scalars8-empty}
 use Rattle.reader.specs.Labels.{placeholderPart, ownBytes, namePart, checkWellFormed, labelOf, labelReplyOf, bufferOf, IsPart, IsLabel}
 use Rattle.reader.specs.Names.{pieces, heapOf, nameBytes, lengthWithZeros, nameStart}
-use Rattle.reader.specs.Stages.Names.{HasName, PieceAt}
+use Rattle.reader.specs.Stages.Names.{HasName, HasPieceAt}
 use Rattle.reader.specs.Opening.{opened}
 use Rattle.reader.specs.Queries.{nameText}
 use Rattle.reader.specs.Replies.{parseReplyOf}
@@ -216,7 +216,7 @@ module _ (b placeholder : List ℕ) (i : ℕ) {x : ParseReply} (e : parseReplyOf
     pub source-zero : {m : Result Part} → i ≡ 0 → m ≡ ok (placeholderPart (length placeholder)) → m ≡ labelOf b placeholder i
     source-zero z u = u ∙ sym (ap (labelOf b placeholder) z ∙ label-zero b placeholder (reply-is parseReplyOf e g))
 
-    module _ (h : i ≤ w .names) (some : i ≡ 0 → ⊥) {start : ℕ} (s : PieceAt b (w .offsets .o0) i start) (v : TextLength)
+    module _ (h : i ≤ w .names) (some : i ≡ 0 → ⊥) {start : ℕ} (s : HasPieceAt b (w .offsets .o0) i start) (v : TextLength)
         (said : lengthOf v ≡ terminatedLength (take (w .offsets .o0 - start) (drop start b))) where
       own : beforeZero (take (w .offsets .o0 - start) (drop start b)) ≡ ownBytes b w i
       own = ap beforeZero (part-slice start (w .offsets .o0) b (s .inside)) ∙ starts-name some s

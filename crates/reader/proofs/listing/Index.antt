@@ -92,7 +92,7 @@ module _ {b : List ℕ} {p : Plan} (plan : IsPlan b p) (g : ℕ) where
   blocks-room =
       either (eqb g 0)
       (λ t. simp t (omega (arith, plan .plan .apart, plan .plan .room)))
-      (λ t. simp t (plan .plan .room))
+      (λ t. simp t (omega (arith, plan .plan .room)))
 
   blocks-most : regionBlocks (p .w) g ≤ 16777216
   blocks-most =

@@ -14,7 +14,7 @@ use Rattle.text.proofs.BufferLaws.{slice-more}
 use Rattle.text.proofs.utf8.Terminated.{before-none, before-zero, before-more}
 use Rattle.text.proofs.TestLaws.{either}
 use Rattle.reader.specs.Names.{onto, pieces, heapOf, nameBytes, lengthWithZeros, nameStart}
-use Rattle.reader.specs.Stages.Names.{piecesFrom, heapPieces, zeros, Counted, Skips, HasPiece, PieceAt, FirstPiece, PieceBegins, HasName, IsName}
+use Rattle.reader.specs.Stages.Names.{piecesFrom, heapPieces, zeros, Counted, Skips, HasPiece, HasPieceAt, FirstPiece, PieceBegins, HasName, IsName}
 use Rattle.reader.specs.declared.names.Skipped.{Skipped}
 
 length-onto : (x : ℕ) (ps : List (List ℕ)) → 1 ≤ length ps → length (onto x ps) ≡ length ps
@@ -132,7 +132,7 @@ module _ {b : List ℕ} {e index : ℕ} (p : HasPiece b e index) where
   pub piece-heap : 40 ≤ e
   piece-heap = heap-begins b (omega (arith, p .least, p .most))
 
-  pub first-starts : index ≡ 1 → PieceAt b e index 40
+  pub first-starts : index ≡ 1 → HasPieceAt b e index 40
   first-starts z = rw z (record { inside = piece-heap; stands = record { rest = refl } })
 
   pub seek-start : (index ≡ 1 → ⊥) → {s : Skipped} → Skips b 40 e (index - 2) s → Seeking b e index (s .zeros + 1) (s .at)
@@ -207,7 +207,7 @@ module _ {b : List ℕ} {e index : ℕ} where
                 ∙ s .rest;
           }
 
-    pub seek-last : index ≤ k → PieceAt b e index i
+    pub seek-last : index ≤ k → HasPieceAt b e index i
     seek-last h =
         let z : index - k ≡ 0 = omega arith in
         record { inside = s .bound; stands = record { rest = from-here i b e (s .bound) ∙ ap (λ (j : ℕ). drop j (pieces (slice i e b))) (sym z) ∙ s .rest } }
@@ -329,7 +329,7 @@ module _ {b : List ℕ} {e index : ℕ} (n : HasName b e index) where
     pub has-piece : HasPiece b e index
     has-piece = record { inside = n .inside; least = omega arith; most = n .most }
 
-    pub name-found : {i j : ℕ} → PieceAt b e index i → FirstPiece b i e j → IsName b e index (record { start = i; end = j })
+    pub name-found : {i j : ℕ} → HasPieceAt b e index i → FirstPiece b i e j → IsName b e index (record { start = i; end = j })
     name-found s f = record { order = f .order; inside = omega (arith, f .inside, n .inside); is = stand-name (s .stands) some (n .most) f }
 
 -- ---- where a piece begins
@@ -397,7 +397,7 @@ piece-at (x ∷ xs) k h =
     (λ t. simp t (in-piece x xs (pieces xs) (pieces-some xs) each k (simp t at h)))
 
 -- where a piece begins there is a heap, and the pieces from there on are its last
-module _ {b : List ℕ} {e index i : ℕ} (s : PieceAt b e index i) where
+module _ {b : List ℕ} {e index i : ℕ} (s : HasPieceAt b e index i) where
   begins : 40 ≤ e
   begins =
       let from = ap length (sym (from-here i b e (s .inside)) ∙ s .stands .rest) in
@@ -407,7 +407,7 @@ module _ {b : List ℕ} {e index i : ℕ} (s : PieceAt b e index i) where
   last-pieces = sym (from-here i b e (s .inside)) ∙ s .stands .rest ∙ ap (drop (index - 1)) (from-here 40 b e begins)
 
 -- the pieces from i on leave their own length for those before them
-pub starts-place : {b : List ℕ} {e index i : ℕ} → e ≤ length b → PieceAt b e index i → i ≡ nameStart b e index
+pub starts-place : {b : List ℕ} {e index i : ℕ} → e ≤ length b → HasPieceAt b e index i → i ≡ nameStart b e index
 starts-place {b} {e} {index} {i} l s =
     let ps : List (List ℕ) = pieces (heapOf b e) in
     let k : ℕ = index - 1 in
@@ -430,7 +430,7 @@ first-piece (x ∷ xs) =
     grown [] h = absurd (omega arith)
     grown (p ∷ ps) h = refl
 
-pub starts-name : {b : List ℕ} {e index i : ℕ} → (index ≡ 0 → ⊥) → PieceAt b e index i → beforeZero (slice i e b) ≡ nameBytes b e index
+pub starts-name : {b : List ℕ} {e index i : ℕ} → (index ≡ 0 → ⊥) → HasPieceAt b e index i → beforeZero (slice i e b) ≡ nameBytes b e index
 unfolding nameBytes
 starts-name {b} {e} {index} {i} some s =
     let ps : List (List ℕ) = pieces (heapOf b e) in

@@ -59,7 +59,7 @@ pub record PieceBegins (b : List ℕ) (end x start : ℕ) : Type 0 where
   pub rest : piecesFrom b end start ≡ drop (x - 1) (heapPieces b end)
 
 -- there is piece index, and it begins at i
-pub record PieceAt (b : List ℕ) (end index i : ℕ) : Type 0 where
+pub record HasPieceAt (b : List ℕ) (end index i : ℕ) : Type 0 where
   pub inside : i ≤ end
   pub stands : PieceBegins b end index i
 

@@ -357,19 +357,20 @@ module _ {M : Type 1} (𝓤 : URA M) (H : Heap 𝓤) (A : Atoms 𝓤) (W : Given
         abbrev env : Env 𝓤 H
         env = (τ₀, l₀) ∷ (bytesTy, l₁) ∷ (rowsTy, l₂) ∷ (τ₃, l₃) ∷ (τ₄, l₄) ∷ (refTy, l₅) ∷ (word, l₆) ∷ (τ₇, l₇) ∷ (word, l₈) ∷ (word, l₉) ∷ (τ₄, l₁₀) ∷ (tyBool, l₁₁) ∷ (τ₁₂, l₁₂) ∷ (word, l₁₃) ∷ (tyPtr, l₁₄) ∷ []
 
-        -- the open borrow of the rows, and the locals, _4 without its contents; those that the start or a turn changes are given
-        abbrev Rest : List (Item 𝓤) → Item 𝓤 → Item 𝓤 → Item 𝓤 → Item 𝓤 → Item 𝓤 → Item 𝓤 → Item 𝓤 → List (Item 𝓤)
-        Rest low c₃ c₅ c₆ c₇ c₈ c₉ c₁₀ =
+        -- the open borrow of the rows, and the locals from _5 up; those that the start or a turn changes are given
+        abbrev Rest : List (Item 𝓤) → Item 𝓤 → Item 𝓤 → Item 𝓤 → Item 𝓤 → Item 𝓤 → Item 𝓤 → List (Item 𝓤)
+        Rest low c₅ c₆ c₇ c₈ c₉ c₁₀ =
             ‵ (fobor κ′ q′ (Held T.the-row (length ys) b o γ)) ∷ ‵ (fobs γ (codedHoleys T.the-row .code (heres T.the-row ys))) ∷ ‵ (fauth γ (codedHoleys T.the-row .code (heres T.the-row ys)))
             ∷ ‵ (froom tyPtr l₁₄ 0) ∷ ‵ (fdies tyPtr l₁₄) ∷ ‵ (froom word l₁₃ 0) ∷ ‵ (fdies word l₁₃) ∷ ‵ (froom τ₁₂ l₁₂ 0) ∷ ‵ (fdies τ₁₂ l₁₂) ∷ ‵ (froom tyBool l₁₁ 0) ∷ ‵ (fdies tyBool l₁₁) ∷ c₁₀ ∷ ‵ (fdies τ₄ l₁₀) ∷ c₉ ∷ ‵ (fdies word l₉) ∷ c₈ ∷ ‵ (fdies word l₈) ∷ c₇ ∷ ‵ (fdies τ₇ l₇) ∷ c₆ ∷ ‵ (fdies word l₆) ∷ c₅ ∷ ‵ (fdies refTy l₅) ∷ low
 
+        -- the other locals, _4 without its contents
         abbrev Low : Item 𝓤 → List (Item 𝓤)
         Low c₃ = ‵ (fdies τ₄ l₄) ∷ c₃ ∷ ‵ (fdies τ₃ l₃) ∷ ‵ (fat fullShare rowsTy l₂ 0 s) ∷ ‵ (fdies rowsTy l₂) ∷ ‵ (fat fullShare bytesTy l₁ 0 v) ∷ ‵ (fdies bytesTy l₁) ∷ ‵ (froom τ₀ l₀ 0) ∷ ‵ (fdies τ₀ l₀) ∷ []
 
         -- before the index is lent
         abbrev Before : Item 𝓤 → Item 𝓤 → Item 𝓤 → List (Item 𝓤)
         Before c₃ c₄ c₉ = Tok ∷ ‵ Own ∷ ‵ (row T.the-row fullShare ys b o)
-            ∷ Rest (c₄ ∷ Low c₃) c₃ (‵ (froom refTy l₅ 0)) (‵ (froom word l₆ 0)) (‵ (froom τ₇ l₇ 0)) (‵ (froom word l₈ 0)) c₉ (‵ (froom τ₄ l₁₀ 0))
+            ∷ Rest (c₄ ∷ Low c₃) (‵ (froom refTy l₅ 0)) (‵ (froom word l₆ 0)) (‵ (froom τ₇ l₇ 0)) (‵ (froom word l₈ 0)) c₉ (‵ (froom τ₄ l₁₀ 0))
 
       enters : (body : Body) → ((l₀ l₁ l₂ l₃ l₄ l₅ l₆ l₇ l₈ l₉ l₁₀ l₁₁ l₁₂ l₁₃ l₁₄ : ℕ) → Sq W (Before l₀ l₁ l₂ l₃ l₄ l₅ l₆ l₇ l₈ l₉ l₁₀ l₁₁ l₁₂ l₁₃ l₁₄ (‵ (froom τ₃ l₃ 0)) (‵ (froom τ₄ l₄ 0)) (‵ (froom word l₉ 0))) (runs C Λ (env l₀ l₁ l₂ l₃ l₄ l₅ l₆ l₇ l₈ l₉ l₁₀ l₁₁ l₁₂ l₁₃ l₁₄) body (atRet (env l₀ l₁ l₂ l₃ l₄ l₅ l₆ l₇ l₈ l₉ l₁₀ l₁₁ l₁₂ l₁₃ l₁₄) Post)))
           → length bs < 2 ^ 64 → ent 𝓤 (onEntry 𝓤 H A list.signature (κ, (κ′, tt)) (q, (q′, tt)) a vals) (WpFn 𝓤 H C Λ (fn body) (v ∷ s ∷ []) Post)
@@ -391,7 +392,7 @@ module _ {M : Type 1} (𝓤 : URA M) (H : Heap 𝓤) (A : Atoms 𝓤) (W : Given
         -- the loan, the open borrow of the rows, and the locals
         abbrev Lending : Item 𝓤 → Item 𝓤 → Item 𝓤 → List (Item 𝓤)
         Lending c₆ c₇ c₈ = Toks ν ∷ ‵ Own ∷ ‵ (Ix z l₄ ν δ) ∷ ‵ (flent (ν ∷ []) (partAt Arr fullShare z l₄ 0))
-            ∷ Rest R′.mir X′.mir arrTy S′.mir T′.mir l₀ l₁ l₂ l₃ l₄ l₅ l₆ l₇ l₈ l₉ l₁₀ l₁₁ l₁₂ l₁₃ l₁₄ (Low R′.mir X′.mir arrTy S′.mir T′.mir l₀ l₁ l₂ l₃ l₄ l₅ l₆ l₇ l₈ l₉ l₁₀ l₁₁ l₁₂ l₁₃ l₁₄ (‵ (fat fullShare X′.mir l₃ 0 u₃))) (‵ (fat fullShare X′.mir l₃ 0 u₃)) (‵ (fat fullShare refTy l₅ 0 (vptr l₄ 0))) c₆ c₇ c₈ (‵ (fat fullShare word l₉ 0 (vint w64 (length ys)))) (‵ (fat fullShare arrTy l₁₀ 0 u₁₀))
+            ∷ Rest R′.mir X′.mir arrTy S′.mir T′.mir l₀ l₁ l₂ l₃ l₄ l₅ l₆ l₇ l₈ l₉ l₁₀ l₁₁ l₁₂ l₁₃ l₁₄ (Low R′.mir X′.mir arrTy S′.mir T′.mir l₀ l₁ l₂ l₃ l₄ l₅ l₆ l₇ l₈ l₉ l₁₀ l₁₁ l₁₂ l₁₃ l₁₄ (‵ (fat fullShare X′.mir l₃ 0 u₃))) (‵ (fat fullShare refTy l₅ 0 (vptr l₄ 0))) c₆ c₇ c₈ (‵ (fat fullShare word l₉ 0 (vint w64 (length ys)))) (‵ (fat fullShare arrTy l₁₀ 0 u₁₀))
 
         module _ (n : ℕ) (n-is : n ≡ written (objectRows bs) (length ys)) where
           n-rows : n ≤ length ys
