@@ -6,7 +6,7 @@ use mathlib.Core.Bool.{Bool}
 use mathlib.Core.List.{List, _∷_, _++_}
 use mathlib.Core.Option.{some}
 use lib.ListN.{length, take, drop}
-use Rattle.text.specs.Buffer.{same}
+use Rattle.text.specs.Buffer.{same, put}
 use Rattle.text.specs.Result.{Result, ok, error, foldRange, _>>_}
 use Rattle.text.specs.Utf8.{unitsOf}
 use Rattle.writer.specs.Array.{Array, stringUnits, allUnits, stringWords, payload, arrayOf}
@@ -71,6 +71,11 @@ standsAt b i w = same (take (length w) (drop i b)) w
 -- what a function that tests that returns
 pub record Has (b : List ℕ) (i : ℕ) (w : List ℕ) (r : Bool) : Type 0 where
   pub is : r ≡ standsAt b i w
+
+-- what a function that writes a part w, of so many bytes, at i returns and leaves
+pub record PutsPart (d : List ℕ) (i bytes : ℕ) (w : List ℕ) (next : ℕ) (d' : List ℕ) : Type 0 where
+  pub end : next ≡ i + bytes
+  pub buffer : d' ≡ put d i w
 
 -- what stands before the entries in the blob for n objects
 unfoldable pub fileHead : ℕ → List ℕ
