@@ -4,17 +4,20 @@ use mathlib.Core.Path.{_≡_, refl, sym, ap, _∙_}
 use mathlib.Core.List.{List, [], _∷_, _++_, flatMap, append-assoc, append-nil}
 use Prim.Native.Nat.{ℕ, zero, suc, _+_, _-_, _*_, _/_, _%_, _^_, _≤_, _<_, min}
 use native.Mathlib.Nat.{add-zero, zero-add, suc-add, mul-suc}
+use native.Mathlib.Numerals.{add-one}
 use native.Mathlib.Omega.{arith}
 use borrow.Author.Tests.{le-leb, lt-leb}
-use lib.ListN.{length, set, length-append}
-use Rattle.text.specs.Buffer.{put, Puts, Places}
+use lib.ListN.{length, getD, set, take, replicate, length-append}
+use lib.Seq.{length-take-le, take-all, take-suc}
+use Rattle.text.specs.Buffer.{put, Puts}
 use Rattle.text.specs.Result.{ok, error}
 use Rattle.text.specs.declared.error.MatError.the-variants.{LimitExceeded, OutputTooShort}
 use Rattle.text.specs.declared.reply.LengthReply.the-variants as lengthReply
-use Rattle.text.proofs.BufferLaws.{put-none, put-front, put-more, length-put, places-fits}
+use Rattle.text.proofs.BufferLaws.{put-none, put-front, put-more, length-put}
 use Rattle.text.proofs.ByteLaws.{stores}
 use Rattle.writer.specs.FileWrapper.{u32Bytes, u32s, nameHeap, classEntries, entry, zeroEntry, entriesFrom, region, regions, offsetsFrom, fileWrapper, buildMetadata}
 use Rattle.writer.specs.Replies.{BuildsMetadata}
+use Rattle.writer.specs.Stages.FileWrapper.{PutsPart, fileHead}
 use Rattle.writer.specs.declared.file_wrapper.Region.{Region}
 use Rattle.writer.specs.declared.file_wrapper.Region.the-variants.{SavedBlocks, Objects, Dependents}
 
@@ -76,40 +79,35 @@ offsets-are n =
     let zeros : 136 + 48 * n + 8 ≡ 144 + 48 * n = omega arith in
     simp (length-region, length-u32s, blocks, objects, normal, dependents, add-zero, zeros)
 
-regroup : (w h c s o p d z : List ℕ) → w ++ (h ++ (c ++ (s ++ (o ++ (p ++ (d ++ z)))))) ≡ w ++ (h ++ c) ++ s ++ o ++ p ++ d ++ z
-regroup w h c s o p d z = simp append-assoc
+pub length-offsets : (n : ℕ) → length (u32s (4 ∷ 2 ∷ offsetsFrom 56 (regions n))) ≡ 40
+length-offsets n = simp (offsets-are, length-u32s)
 
--- the blob as the code writes it, part by part
+-- ---- the blob as the code has it: words, with the entries of n objects among them
+
+pub head-is : (n : ℕ)
+    → u32s (4 ∷ 2 ∷ 56 ∷ 88 ∷ (96 + 16 * n) ∷ (120 + 40 * n) ∷ (128 + 40 * n) ∷ (136 + 48 * n) ∷ (136 + 48 * n) ∷ (144 + 48 * n)
+    ∷ 0x00796E61 ∷ 0x69727473 ∷ 0x0000676E ∷ 0 ∷ 0 ∷ 0 ∷ 0 ∷ 0 ∷ 0 ∷ 2 ∷ 0 ∷ 0 ∷ 0 ∷ 0 ∷ []) ≡ fileHead n
+unfolding fileHead u32s flatMap
+head-is n = rw (offsets-are n)
+
+pub length-head : (n : ℕ) → length (fileHead n) ≡ 96
+unfolding fileHead
+length-head n = simp length-append (omega (arith, length-offsets n, length-u32s (0 ∷ 0 ∷ 0 ∷ 0 ∷ 0 ∷ 2 ∷ 0 ∷ 0 ∷ []), length-u32s (zeroEntry SavedBlocks)))
+
+regroup : (w h c u es v eo p x ed z : List ℕ) → w ++ (h ++ (c ++ ((u ++ es) ++ ((v ++ eo) ++ (p ++ ((x ++ ed) ++ z))))))
+    ≡ (w ++ (h ++ c) ++ u) ++ (es ++ (v ++ (eo ++ ((p ++ x) ++ (ed ++ z)))))
+regroup w h c u es v eo p x ed z = simp append-assoc
+
 pub file-wrapper-is : (n : ℕ) → fileWrapper n
-    ≡ u32s (4 ∷ 2 ∷ offsetsFrom 56 (regions n)) ++ (nameHeap ++ classEntries) ++ region SavedBlocks n ++ region Objects n ++ (u32Bytes 0 ++ u32Bytes 0)
-    ++ region Dependents n ++ (u32Bytes 0 ++ u32Bytes 0)
-unfolding fileWrapper regions flatMap u32s
+    ≡ fileHead n ++ (entriesFrom SavedBlocks 0 n ++ (u32s (replicate 6 0) ++ (entriesFrom Objects 0 n ++ (u32s (replicate 4 0)
+    ++ (entriesFrom Dependents 0 n ++ u32s (replicate 2 0))))))
+unfolding fileWrapper fileHead regions region u32s flatMap
 file-wrapper-is n =
-    regroup (u32s (4 ∷ 2 ∷ offsetsFrom 56 (regions n))) nameHeap classEntries (region SavedBlocks n) (region Objects n) (u32Bytes 0 ++ u32Bytes 0)
-    (region Dependents n) (u32Bytes 0 ++ u32Bytes 0)
-
--- how long those parts are
-pub record Sizes (n : ℕ) : Type 0 where
-  pub offsets : length (u32s (4 ∷ 2 ∷ offsetsFrom 56 (regions n))) ≡ 40
-  pub classes : length (nameHeap ++ classEntries) ≡ 48
-  pub blocks : length (region SavedBlocks n) ≡ 8 + 16 * n
-  pub objects : length (region Objects n) ≡ 24 + 24 * n
-  pub dependents : length (region Dependents n) ≡ 8 + 8 * n
-
-pub sizes : (n : ℕ) → Sizes n
-sizes n =
-    record {
-      offsets = simp (offsets-are, length-u32s);
-      classes = simp length-u32s;
-      blocks = length-region SavedBlocks n;
-      objects = length-region Objects n;
-      dependents = length-region Dependents n;
-    }
+    regroup (u32s (4 ∷ 2 ∷ offsetsFrom 56 (regions n))) nameHeap classEntries (u32s (zeroEntry SavedBlocks)) (entriesFrom SavedBlocks 0 n)
+    (u32s (zeroEntry Objects)) (entriesFrom Objects 0 n) (u32Bytes 0 ++ u32Bytes 0) (u32s (zeroEntry Dependents)) (entriesFrom Dependents 0 n) (u32Bytes 0 ++ u32Bytes 0)
 
 pub length-file-wrapper : (n : ℕ) → length (fileWrapper n) ≡ 144 + 48 * n
-length-file-wrapper n =
-    let z = sizes n in
-    simp (file-wrapper-is, length-append) (omega arith)
+length-file-wrapper n = simp (file-wrapper-is, length-append, length-head, length-entries, length-u32s) (omega arith)
 
 -- ---- writing, one thing after another
 
@@ -132,61 +130,90 @@ u32-stored d at v room =
     let three : at + 3 ≡ suc (suc (suc at)) = omega arith in
     record { end = omega arith; buffer = rw (one, two, three) (stores (u32Bytes v) d at room) }
 
--- an entry's words ws, in pairs
-module _ {ws : List ℕ} {a b : ℕ} {d d₁ : List ℕ} {at i₁ : ℕ} where
-  pub one-pair : ws ≡ a ∷ b ∷ [] → Puts d at (u32Bytes a ++ u32Bytes b) i₁ d₁ → Puts d at (u32s ws) i₁ d₁
-  unfolding u32s flatMap
-  one-pair e p = rw e p
-
-  module _ {a' b' : ℕ} {d₂ : List ℕ} {i₂ : ℕ} where
-    pub two-pairs : ws ≡ a ∷ b ∷ a' ∷ b' ∷ [] → Puts d at (u32Bytes a ++ u32Bytes b) i₁ d₁ → Puts d₁ i₁ (u32Bytes a' ++ u32Bytes b') i₂ d₂
-        → at + 4 * length ws ≤ length d → Puts d at (u32s ws) i₂ d₂
-    unfolding u32s flatMap
-    two-pairs e p q room = rw e (puts-then p q (omega (arith, ap length e)))
-
-    pub three-pairs : {a'' b'' : ℕ} {d₃ : List ℕ} {i₃ : ℕ} → ws ≡ a ∷ b ∷ a' ∷ b' ∷ a'' ∷ b'' ∷ [] → Puts d at (u32Bytes a ++ u32Bytes b) i₁ d₁
-        → Puts d₁ i₁ (u32Bytes a' ++ u32Bytes b') i₂ d₂ → Puts d₂ i₂ (u32Bytes a'' ++ u32Bytes b'') i₃ d₃ → at + 4 * length ws ≤ length d → Puts d at (u32s ws) i₃ d₃
-    unfolding u32s flatMap
-    three-pairs e p q r room = rw e (puts-then (puts-then p q (omega (arith, ap length e))) r (omega (arith, ap length e)))
-
--- ---- writing a region
-
--- the loop that writes the entries of n objects to d₀ from index next₀ on: d as it is, with i entries written up to index next
-pub record Entering (r : Region) (n : ℕ) (d₀ : List ℕ) (next₀ : ℕ) (d : List ℕ) (next i : ℕ) : Type 0 where
-  pub bound : i ≤ n
-  pub room : next₀ + length (entriesFrom r 0 n) ≤ length d₀
+-- the loop that writes words ws to d₀ from index at on: d as it is, with i words written up to index next
+pub record Writing (ws d₀ : List ℕ) (at : ℕ) (d : List ℕ) (next i : ℕ) : Type 0 where
+  pub bound : i ≤ length ws
+  pub room : at + 4 * length ws ≤ length d₀
   pub same : length d ≡ length d₀
-  pub written : Puts d₀ next₀ (entriesFrom r 0 i) next d
+  pub end : next ≡ at + 4 * i
+  pub written : d ≡ put d₀ at (u32s (take i ws))
 
-entries-fit : (r : Region) (i n : ℕ) → i < n → length (entriesFrom r 0 i) + 4 * length (entry r i) ≤ length (entriesFrom r 0 n)
+module _ (ws d₀ : List ℕ) (at : ℕ) where
+  pub write-start : at + 4 * length ws ≤ length d₀ → Writing ws d₀ at d₀ at 0
+  unfolding u32s flatMap
+  write-start h = record { bound = omega arith; room = h; same = refl; end = omega arith; written = sym (put-none d₀ at) }
+
+  module _ {d : List ℕ} {next i : ℕ} (m : Writing ws d₀ at d next i) where
+    pub write-room : i < length ws → next + 4 ≤ length d
+    write-room h = omega arith
+
+    pub write-turn : i < length ws → {d' : List ℕ} {next' : ℕ} → Puts d next (u32Bytes (getD ws i 0)) next' d' → Writing ws d₀ at d' next' (i + 1)
+    unfolding u32s flatMap
+    write-turn h {d'} p =
+        let l = length-u32s (take i ws) in
+        let k = length-take-le i ws (m .bound) in
+        let s : length d' ≡ length d = puts-length p (omega arith) in
+        let w : u32s (take (i + 1) ws) ≡ u32s (take i ws) ++ u32Bytes (getD ws i 0) =
+        rw (add-one, take-suc ws i 0 h) (u32s-append (take i ws) (getD ws i 0 ∷ []) ∙ ap (λ (r : List ℕ). u32s (take i ws) ++ r) (append-nil (u32Bytes (getD ws i 0)))) in
+        record {
+          bound = omega arith;
+          room = m .room;
+          same = omega arith;
+          end = omega (arith, p .end);
+          written =
+              p .buffer
+              ∙ ap (λ (b : List ℕ). put b next (u32Bytes (getD ws i 0))) (m .written)
+              ∙ put-more d₀ at (u32s (take i ws)) (u32Bytes (getD ws i 0)) next (omega arith) (omega arith)
+              ∙ ap (put d₀ at) (sym w);
+        }
+
+    pub write-last : length ws ≤ i → PutsPart d₀ at (4 * length ws) (u32s ws) next d
+    write-last h = record { end = omega arith; buffer = m .written ∙ ap (λ (vs : List ℕ). put d₀ at (u32s vs)) (take-all i ws h) }
+
+-- ---- writing the entries of a region
+
+-- an entry of kind k, which is r, by its words ws
+words-of : (r : Region) (i : ℕ) → length (entry r i) ≡ length (entry r 0)
+words-of SavedBlocks i = refl
+words-of Objects i = refl
+words-of Dependents i = refl
+
+module _ {k r : Region} {ws : List ℕ} (i : ℕ) (g : k ≡ r) (e : ws ≡ entry r i) where
+  pub entry-words : length ws ≡ length (entry k 0)
+  entry-words = rw (e, g) (words-of r i)
+
+  pub entry-put : {d d' : List ℕ} {at next : ℕ} → PutsPart d at (4 * length ws) (u32s ws) next d' → Puts d at (u32s (entry k i)) next d'
+  entry-put p = rw (g, sym e) (record { end = omega (arith, p .end, length-u32s ws); buffer = p .buffer })
+
+-- the loop that writes the entries of n objects to d₀ from index at on: d as it is, with i entries written up to index next
+pub record Entering (r : Region) (n : ℕ) (d₀ : List ℕ) (at : ℕ) (d : List ℕ) (next i : ℕ) : Type 0 where
+  pub bound : i ≤ n
+  pub room : at + length (entriesFrom r 0 n) ≤ length d₀
+  pub same : length d ≡ length d₀
+  pub written : Puts d₀ at (entriesFrom r 0 i) next d
+
+entries-fit : (r : Region) (i n : ℕ) → i < n → length (entriesFrom r 0 i) + entrySize r ≤ length (entriesFrom r 0 n)
 entries-fit SavedBlocks i n h = simp length-entries (omega arith)
 entries-fit Objects i n h = simp length-entries (omega arith)
 entries-fit Dependents i n h = simp length-entries (omega arith)
 
--- there is room for the zero entry
-pub zero-fits : (r : Region) (n at room : ℕ) → at + length (region r n) ≤ room → at + 4 * length (zeroEntry r) ≤ room
-zero-fits r n at room h = omega (arith, length-region r n)
+module _ (r : Region) (n : ℕ) (d₀ : List ℕ) (at : ℕ) where
+  pub entries-start : at + entrySize r * n ≤ length d₀ → Entering r n d₀ at d₀ at 0
+  unfolding entriesFrom
+  entries-start h = record {
+    bound = omega arith;
+    room = rw (length-entries r 0 n) h;
+    same = refl;
+    written = record { end = omega arith; buffer = sym (put-none d₀ at) };
+  }
 
-module _ {r : Region} {n : ℕ} {d₀ : List ℕ} {next₀ : ℕ} where
-  pub entries-start : {d : List ℕ} {at : ℕ} → Puts d at (u32s (zeroEntry r)) next₀ d₀ → at + length (region r n) ≤ length d → Entering r n d₀ next₀ d₀ next₀ 0
-  unfolding region entriesFrom
-  entries-start {d} {at} p room =
-      let whole : at + (length (u32s (zeroEntry r)) + length (entriesFrom r 0 n)) ≤ length d = rw length-append at room in
-      let same : length d₀ ≡ length d = puts-length p (omega arith) in
-      record {
-        bound = omega arith;
-        room = omega arith;
-        same = refl;
-        written = record { end = omega arith; buffer = sym (put-none d₀ next₀) };
-      }
-
-  module _ {d : List ℕ} {next i : ℕ} (e : Entering r n d₀ next₀ d next i) where
-    pub entries-room : i < n → next + 4 * length (entry r i) ≤ length d
+  module _ {d : List ℕ} {next i : ℕ} (e : Entering r n d₀ at d next i) where
+    pub entries-room : i < n → next + entrySize r ≤ length d
     entries-room h = omega (arith, entries-fit r i n h)
 
-    pub entries-turn : {d' : List ℕ} {next' : ℕ} → i < n → Puts d next (u32s (entry r i)) next' d' → Entering r n d₀ next₀ d' next' (i + 1)
+    pub entries-turn : {d' : List ℕ} {next' : ℕ} → i < n → Puts d next (u32s (entry r i)) next' d' → Entering r n d₀ at d' next' (i + 1)
     entries-turn {d'} {next'} h p =
-        let size = length-u32s (entry r i) in
+        let size = length-entry r i in
         let fit = entries-fit r i n h in
         let same : length d' ≡ length d = puts-length p (omega arith) in
         record {
@@ -196,58 +223,44 @@ module _ {r : Region} {n : ℕ} {d₀ : List ℕ} {next₀ : ℕ} where
           written = rw entries-more (puts-then (e .written) p (omega arith));
         }
 
-    pub entries-last : {d' : List ℕ} {at : ℕ} → n ≤ i → Puts d' at (u32s (zeroEntry r)) next₀ d₀ → at + length (region r n) ≤ length d' → Puts d' at (region r n) next d
-    unfolding region
-    entries-last {d'} {at} h p room =
-        let all : i ≡ n = omega arith in
-        let whole : at + (length (u32s (zeroEntry r)) + length (entriesFrom r 0 n)) ≤ length d' = rw length-append at room in
-        puts-then p (rw all at (e .written)) (omega arith)
+    pub entries-last : n ≤ i → PutsPart d₀ at (entrySize r * n) (entriesFrom r 0 n) next d
+    entries-last h =
+        let k : i ≡ n = omega arith in
+        let p : Puts d₀ at (entriesFrom r 0 n) next d = rw k at (e .written) in
+        record { end = rw (length-entries r 0 n) at (p .end); buffer = p .buffer }
 
--- ---- writing what stands before the regions
+-- ---- writing the whole blob, part after part
 
-pub offsets-written : (n : ℕ) {d₀ d₁ d₂ d₃ d₄ d₅ : List ℕ} {i₁ i₂ i₃ i₄ i₅ : ℕ} → 40 ≤ length d₀
-    → Puts d₀ 0 (u32Bytes 4 ++ u32Bytes 2) i₁ d₁
-    → Puts d₁ i₁ (u32Bytes 56 ++ u32Bytes 88) i₂ d₂
-    → Puts d₂ i₂ (u32Bytes (96 + 16 * n) ++ u32Bytes (120 + 40 * n)) i₃ d₃
-    → Puts d₃ i₃ (u32Bytes (128 + 40 * n) ++ u32Bytes (136 + 48 * n)) i₄ d₄
-    → Puts d₄ i₄ (u32Bytes (136 + 48 * n) ++ u32Bytes (144 + 48 * n)) i₅ d₅
-    → Puts d₀ 0 (u32s (4 ∷ 2 ∷ offsetsFrom 56 (regions n))) i₅ d₅
-unfolding u32s flatMap
-offsets-written n room a b c d e =
-    rw (offsets-are n) (puts-then (puts-then (puts-then (puts-then a b (omega arith)) c (omega arith)) d (omega arith)) e (omega arith))
+next-part : (d : List ℕ) (i : ℕ) (w : List ℕ) {d' d'' x : List ℕ} {j k bytes : ℕ} → d' ≡ put d i w → PutsPart d' j bytes x k d'' → j ≡ i + length w → j + length x ≤ length d
+    → d'' ≡ put d i (w ++ x)
+next-part d i w {x = x} {j = j} p q e room = q .buffer ∙ ap (λ (b : List ℕ). put b j x) p ∙ put-more d i w x j e room
 
-pub classes-written : {d₀ d₁ d₂ d₃ d₄ d₅ : List ℕ} {i₀ i₁ i₂ i₃ i₄ i₅ : ℕ} → i₀ + 48 ≤ length d₀
-    → Places d₀ i₀ nameHeap i₁ d₁
-    → Puts d₁ (i₀ + 16) (u32Bytes 0 ++ u32Bytes 0) i₂ d₂
-    → Puts d₂ i₂ (u32Bytes 0 ++ u32Bytes 0) i₃ d₃
-    → Puts d₃ i₃ (u32Bytes 0 ++ u32Bytes 2) i₄ d₄
-    → Puts d₄ i₄ (u32Bytes 0 ++ u32Bytes 0) i₅ d₅
-    → Puts d₀ i₀ (nameHeap ++ classEntries) i₅ d₅
-unfolding u32s flatMap
-classes-written {d₀} {d₁} {i₀ = i₀} room h a b c d =
-    let p = places-fits d₀ i₀ nameHeap (omega arith) h in
-    let n : Puts d₀ i₀ nameHeap (i₀ + 16) d₁ = record { end = refl; buffer = p .buffer } in
-    puts-then (puts-then (puts-then (puts-then n a (omega arith)) b (omega arith)) c (omega arith)) d (omega arith)
+pub region-put : (r : Region) (n : ℕ) (after : List ℕ) {d d' d'' : List ℕ} {at j k : ℕ} → at + entrySize r * n + 4 * length after ≤ length d
+    → PutsPart d at (entrySize r * n) (entriesFrom r 0 n) j d' → PutsPart d' j (4 * length after) (u32s after) k d''
+    → PutsPart d at (entrySize r * n + 4 * length after) (entriesFrom r 0 n ++ u32s after) k d''
+region-put r n after {d} {at = at} room p q =
+    let l = length-entries r 0 n in
+    let m = length-u32s after in
+    record {
+      end = omega (arith, p .end, q .end);
+      buffer = next-part d at (entriesFrom r 0 n) (p .buffer) q (omega (arith, p .end)) (omega (arith, p .end));
+    }
 
--- ---- writing the whole blob
+ruleset part-lengths = (length-append, length-head, length-entries, length-u32s)
 
-pub file-written : (n : ℕ) {d₀ d₁ d₂ d₃ d₄ d₅ d₆ d₇ : List ℕ} {i₁ i₂ i₃ i₄ i₅ i₆ i₇ : ℕ} → 144 + 48 * n ≤ length d₀
-    → Puts d₀ 0 (u32s (4 ∷ 2 ∷ offsetsFrom 56 (regions n))) i₁ d₁
-    → Puts d₁ i₁ (nameHeap ++ classEntries) i₂ d₂
-    → Puts d₂ i₂ (region SavedBlocks n) i₃ d₃
-    → Puts d₃ i₃ (region Objects n) i₄ d₄
-    → Puts d₄ i₄ (u32Bytes 0 ++ u32Bytes 0) i₅ d₅
-    → Puts d₅ i₅ (region Dependents n) i₆ d₆
-    → Puts d₆ i₆ (u32Bytes 0 ++ u32Bytes 0) i₇ d₇
-    → d₇ ≡ put d₀ 0 (fileWrapper n)
-file-written n room o h s r p t q =
-    let z = sizes n in
-    let oh = puts-then o h (omega arith) in
-    let ohs = puts-then oh s (simp length-append (omega arith)) in
-    let ohsr = puts-then ohs r (simp length-append (omega arith)) in
-    let ohsrp = puts-then ohsr p (simp length-append (omega arith)) in
-    let ohsrpt = puts-then ohsrp t (simp length-append (omega arith)) in
-    rw file-wrapper-is (puts-then ohsrpt q (simp length-append (omega arith)) .buffer)
+pub file-written : (n : ℕ) (head : List ℕ) {d₀ d₁ d₂ d₃ d₄ : List ℕ} {i₁ i₂ i₃ i₄ : ℕ} → u32s head ≡ fileHead n → 144 + 48 * n ≤ length d₀
+    → PutsPart d₀ 0 (4 * length head) (u32s head) i₁ d₁
+    → PutsPart d₁ 96 (16 * n + 24) (entriesFrom SavedBlocks 0 n ++ u32s (replicate 6 0)) i₂ d₂
+    → PutsPart d₂ i₂ (24 * n + 16) (entriesFrom Objects 0 n ++ u32s (replicate 4 0)) i₃ d₃
+    → PutsPart d₃ i₃ (8 * n + 8) (entriesFrom Dependents 0 n ++ u32s (replicate 2 0)) i₄ d₄
+    → d₄ ≡ put d₀ 0 (fileWrapper n)
+file-written n head {d₀} {d₁} e room a b c d =
+    let lh = length-head n in
+    let p₁ : d₁ ≡ put d₀ 0 (fileHead n) = rw e at (a .buffer) in
+    let p₂ = next-part d₀ 0 (fileHead n) p₁ b (omega arith) (simp part-lengths (omega arith)) in
+    let p₃ = next-part d₀ 0 _ p₂ c (simp part-lengths (omega (arith, b .end))) (simp part-lengths (omega (arith, b .end))) in
+    let p₄ = next-part d₀ 0 _ p₃ d (simp part-lengths (omega (arith, b .end, c .end))) (simp part-lengths (omega (arith, b .end, c .end))) in
+    rw file-wrapper-is (simp append-assoc at p₄)
 
 -- ---- building, for an output of `room` bytes
 

@@ -12,7 +12,7 @@ use Rattle.writer.specs.FileWrapper.{u32Bytes, u32s, nameHeap, classEntr
 use Rattle.writer.specs.Spans.{offsetAt, endAt, stringAt, joined, spansFrom}
 use Rattle.writer.specs.declared.file_wrapper.Region.{Region}
 use Rattle.writer.specs.declared.file_wrapper.Region.the-variants.{SavedBlocks, Objects}
-use Rattle.writer.proofs.FileWrapperLaws.{length-u32s, entrySize, length-entries, entries-split, offsets-are, sizes}
+use Rattle.writer.proofs.FileWrapperLaws.{length-u32s, entrySize, length-entries, entries-split, offsets-are, length-offsets}
 
 part-at : (p q r : List ℕ) (a e : ℕ) → length p ≡ a → a + length q ≡ e → slice a e (p ++ (q ++ r)) ≡ q
 part-at p q r a e h k =
@@ -55,7 +55,7 @@ file-regions n k h =
     let w : List ℕ = u32s (4 ∷ 2 ∷ offsetsFrom 56 (regions n)) in
     ap (λ (x : List ℕ). slice (getD (offsetsFrom 56 (regions n)) k 0) (getD (offsetsFrom 56 (regions n)) (suc k) 0) x)
     (sym (append-assoc w nameHeap (flatMap (λ r. r) (regions n))))
-    ∙ regions-from (w ++ nameHeap) 56 (regions n) (length-append w nameHeap ∙ ap (λ (m : ℕ). m + 16) (sizes n .offsets)) k h
+    ∙ regions-from (w ++ nameHeap) 56 (regions n) (length-append w nameHeap ∙ ap (λ (m : ℕ). m + 16) (length-offsets n)) k h
 
 -- a region ends where the next one begins
 pub offset-next : (o : ℕ) (rs : List (List ℕ)) (k : ℕ) → k < length rs
@@ -68,11 +68,11 @@ offset-next o (r ∷ rs) (suc k) h = offset-next (o + length r) rs k (omega arit
 -- what stands before the regions
 pub file-words : (n : ℕ) → slice 0 40 (fileWrapper n) ≡ u32s (4 ∷ 2 ∷ offsetsFrom 56 (regions n))
 unfolding fileWrapper
-file-words n = take-at (u32s (4 ∷ 2 ∷ offsetsFrom 56 (regions n))) (nameHeap ++ flatMap (λ r. r) (regions n)) 40 (sizes n .offsets)
+file-words n = take-at (u32s (4 ∷ 2 ∷ offsetsFrom 56 (regions n))) (nameHeap ++ flatMap (λ r. r) (regions n)) 40 (length-offsets n)
 
 pub file-heap : (n : ℕ) → slice 40 56 (fileWrapper n) ≡ nameHeap
 unfolding fileWrapper
-file-heap n = part-at (u32s (4 ∷ 2 ∷ offsetsFrom 56 (regions n))) nameHeap (flatMap (λ r. r) (regions n)) 40 56 (sizes n .offsets) refl
+file-heap n = part-at (u32s (4 ∷ 2 ∷ offsetsFrom 56 (regions n))) nameHeap (flatMap (λ r. r) (regions n)) 40 56 (length-offsets n) refl
 
 -- ---- entries
 

@@ -1,3 +1,4 @@
 pub mod Compare
+pub mod FileWrapper
 pub mod Packing
 pub mod Payload

@@ -1,12 +1,14 @@
 // Whether bytes are the metadata blob for string objects: compared where they lie, with nothing written.
-use crate::file_wrapper::FILEWRAPPER_VERSION;
 use crate::file_wrapper::Region;
+use crate::file_wrapper::head_words;
+use crate::file_wrapper::object_record;
+use crate::file_wrapper::saved_block;
 ghost use mathlib.Core.Path.{_≡_};
 ghost use Prim.Native.Nat.{_+_, _*_, _≤_, _<_};
 ghost use lib.ListN.{length};
 ghost use Rattle.text.specs.Buffer.{same};
 ghost use Rattle.writer.specs.FileWrapper.{u32Bytes, u32s, entry, entriesFrom, fileWrapper};
-ghost use Rattle.writer.specs.Stages.Compare.{Has, fileHead};
+ghost use Rattle.writer.specs.Stages.Compare.{Has};
 
 fn wide(x: u8) -> u32
     ensures { λ r. ⌜ (r ≡ x) × (r < 256) ⌝ }
@@ -47,8 +49,14 @@ fn has_entry(blob: &[u8], at: usize, kind: Region, i: u32) -> bool
     ensures { λ r. ⌜ Has (now (blob .entry)) at (u32s (entry kind i)) r ⌝ }
 {
     match kind {
-        Region::SavedBlocks => has_words(blob, at, &[1, 1, 1, i]),
-        Region::Objects => has_words(blob, at, &[1, 0, 0, i + 1, 0, i + 1]),
+        Region::SavedBlocks => {
+            let words = saved_block(i);
+            has_words(blob, at, &words)
+        }
+        Region::Objects => {
+            let words = object_record(i);
+            has_words(blob, at, &words)
+        }
         Region::Dependents => has_words(blob, at, &[0, 0]),
     }
 }
@@ -70,49 +78,13 @@ fn has_entries(blob: &[u8], at: usize, kind: Region, size: usize, n: usize) -> b
     true
 }
 
-// Whether blob has what stands before the entries. The words of the name heap are its bytes, four at a time.
-fn has_head(n: u32, blob: &[u8]) -> bool
-    requires { ⌜ (n ≤ 349522) × (96 ≤ length (now blob)) ⌝ }
-    ensures { λ r. ⌜ Has (now (blob .entry)) 0 (fileHead n) r ⌝ }
-{
-    let head = [
-        FILEWRAPPER_VERSION,
-        2,
-        // The offsets.
-        56,
-        88,
-        96 + 16 * n,
-        120 + 40 * n,
-        128 + 40 * n,
-        136 + 48 * n,
-        136 + 48 * n,
-        144 + 48 * n,
-        // The name heap: any, string.
-        0x00796E61,
-        0x69727473,
-        0x0000676E,
-        0,
-        // The classes, and block 0.
-        0,
-        0,
-        0,
-        0,
-        0,
-        2,
-        0,
-        0,
-        0,
-        0,
-    ];
-    has_words(blob, 0, &head)
-}
-
 // Whether bytes as many as those of the blob for n objects are that blob.
 pub(crate) fn has_file_wrapper(n: usize, blob: &[u8]) -> bool
     requires { ⌜ (n ≤ 349522) × (length (now blob) ≡ 144 + 48 * n) ⌝ }
     ensures { λ r. ⌜ r ≡ same (now (blob .entry)) (fileWrapper n) ⌝ }
 {
-    if !has_head(n as u32, blob) {
+    let head = head_words(n as u32);
+    if !has_words(blob, 0, &head) {
         return false;
     }
     if !has_entries(blob, 96, Region::SavedBlocks, 16, n) {

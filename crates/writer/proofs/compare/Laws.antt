@@ -2,7 +2,7 @@
 -- Assumes nothing.
 use mathlib.Core.Path.{_≡_, refl, sym, ap, _∙_}
 use mathlib.Core.Bool.{Bool, true, false, not, _&&_, and-false}
-use mathlib.Core.List.{List, [], _∷_, _++_, flatMap, append-assoc}
+use mathlib.Core.List.{List, [], _∷_, _++_, flatMap}
 use Prim.Native.Nat.{ℕ, suc, _+_, _-_, _*_, _/_, _%_, _^_, _≤_, _<_}
 use native.Mathlib.Nat.{add-zero, sub-zero}
 use native.Mathlib.Numerals.{add-one}
@@ -14,11 +14,12 @@ use lib.Seq.{drop-cons, drop-drop, take-all}
 use Rattle.text.specs.Buffer.{same}
 use Rattle.text.proofs.SameLaws.{same-refl, same-not, same-append}
 use Rattle.text.proofs.TestLaws.{either}
-use Rattle.writer.specs.FileWrapper.{u32Bytes, u32s, nameHeap, classEntries, entry, zeroEntry, entriesFrom, region, regions, offsetsFrom, fileWrapper, isFileWrapper}
-use Rattle.writer.specs.Stages.Compare.{standsAt, Has, fileHead}
+use Rattle.writer.specs.FileWrapper.{u32Bytes, u32s, entry, entriesFrom, fileWrapper, isFileWrapper}
+use Rattle.writer.specs.Stages.Compare.{standsAt, Has}
+use Rattle.writer.specs.Stages.FileWrapper.{fileHead}
 use Rattle.writer.specs.declared.file_wrapper.Region.{Region}
 use Rattle.writer.specs.declared.file_wrapper.Region.the-variants.{SavedBlocks, Objects, Dependents}
-use Rattle.writer.proofs.FileWrapperLaws.{length-u32s, entrySize, length-entry, length-entries, offsets-are, file-wrapper-is, length-file-wrapper, sizes}
+use Rattle.writer.proofs.FileWrapperLaws.{length-u32s, entrySize, length-entry, length-entries, length-head, file-wrapper-is, length-file-wrapper}
 
 -- ---- one part after another
 
@@ -166,35 +167,6 @@ module _ {b : List ℕ} {r : Region} {size n at : ℕ} where
 
 -- ---- the whole blob
 
--- what stands before the entries
-pub head-is : {b : List ℕ} (n : ℕ) {p : Bool}
-    → Has b 0 (u32s (4 ∷ 2 ∷ 56 ∷ 88 ∷ (96 + 16 * n) ∷ (120 + 40 * n) ∷ (128 + 40 * n) ∷ (136 + 48 * n) ∷ (136 + 48 * n) ∷ (144 + 48 * n)
-    ∷ 0x00796E61 ∷ 0x69727473 ∷ 0x0000676E ∷ 0 ∷ 0 ∷ 0 ∷ 0 ∷ 0 ∷ 0 ∷ 2 ∷ 0 ∷ 0 ∷ 0 ∷ 0 ∷ [])) p
-    → Has b 0 (fileHead n) p
-unfolding fileHead u32s flatMap
-head-is {b} n e = rw (offsets-are n) e
-
-regroup : (w h u es v eo p x ed z : List ℕ) → w ++ h ++ (u ++ es) ++ (v ++ eo) ++ p ++ (x ++ ed) ++ z
-    ≡ (w ++ h ++ u) ++ (es ++ (v ++ (eo ++ ((p ++ x) ++ (ed ++ z)))))
-regroup w h u es v eo p x ed z = simp append-assoc
-
-module _ (n : ℕ) where
-  length-head : length (fileHead n) ≡ 96
-  unfolding fileHead
-  length-head =
-      let z = sizes n in
-      simp length-append (omega (arith, length-u32s (zeroEntry SavedBlocks)))
-
-  -- the blob as the code compares it
-  parts : fileWrapper n
-      ≡ fileHead n ++ (entriesFrom SavedBlocks 0 n ++ (u32s (replicate 6 0) ++ (entriesFrom Objects 0 n ++ (u32s (replicate 4 0)
-      ++ (entriesFrom Dependents 0 n ++ u32s (replicate 2 0))))))
-  unfolding fileHead region u32s flatMap
-  parts =
-      file-wrapper-is n
-      ∙ regroup (u32s (4 ∷ 2 ∷ offsetsFrom 56 (regions n))) (nameHeap ++ classEntries) (u32s (zeroEntry SavedBlocks)) (entriesFrom SavedBlocks 0 n)
-      (u32s (zeroEntry Objects)) (entriesFrom Objects 0 n) (u32Bytes 0 ++ u32Bytes 0) (u32s (zeroEntry Dependents)) (entriesFrom Dependents 0 n) (u32Bytes 0 ++ u32Bytes 0)
-
 lacks : {b w : List ℕ} {i : ℕ} {p : Bool} → Has b i w p → not p ≡ true → standsAt b i w ≡ false
 lacks {b} {w} {i} {p} e f = sym (e .is) ∙ not-true p f
 
@@ -214,7 +186,7 @@ module _ (n : ℕ) (b : List ℕ) (l : length b ≡ 144 + 48 * n) where
   unfolding standsAt
   whole =
       ap (λ (x : List ℕ). same x (fileWrapper n)) (sym (take-all (length (fileWrapper n)) b (omega (arith, length-file-wrapper n))))
-      ∙ ap (standsAt b 0) (parts n)
+      ∙ ap (standsAt b 0) (file-wrapper-is n)
       ∙ rw (
         stands-append b (fileHead n) 0 96 (omega (arith, length-head n)),
         stands-append b (entriesFrom SavedBlocks 0 n) 96 (96 + 16 * n) (omega (arith, length-entries SavedBlocks 0 n)),
@@ -224,9 +196,12 @@ module _ (n : ℕ) (b : List ℕ) (l : length b ≡ 144 + 48 * n) where
         stands-append b (entriesFrom Dependents 0 n) (136 + 40 * n) (136 + 48 * n) (omega (arith, length-entries Dependents 0 n)),
       )
 
+  head-has : (head : List ℕ) {p : Bool} → u32s head ≡ fileHead n → Has b 0 (u32s head) p → Has b 0 (fileHead n) p
+  head-has head h e = rw h at e
+
   module _ {p : Bool} (f : not p ≡ true) where
-    pub lacks-head : Has b 0 (fileHead n) p → false ≡ same b (fileWrapper n)
-    lacks-head e = sym (whole ∙ simp (lacks e f))
+    pub lacks-head : (head : List ℕ) → u32s head ≡ fileHead n → Has b 0 (u32s head) p → false ≡ same b (fileWrapper n)
+    lacks-head head h e = sym (whole ∙ simp (lacks (head-has head h e) f))
 
     pub lacks-blocks : Has b 96 (entriesFrom SavedBlocks 0 n) p → false ≡ same b (fileWrapper n)
     lacks-blocks e = sym (whole ∙ simp (lacks e f, and-false))
@@ -243,14 +218,14 @@ module _ (n : ℕ) (b : List ℕ) (l : length b ≡ 144 + 48 * n) where
     pub lacks-dependents : Has b (136 + 40 * n) (entriesFrom Dependents 0 n) p → false ≡ same b (fileWrapper n)
     lacks-dependents e = sym (whole ∙ simp (lacks e f, and-false))
 
-  pub has-all : {p₁ p₂ p₃ p₄ p₅ p₆ p : Bool} → Has b 0 (fileHead n) p₁ → not p₁ ≡ false
+  pub has-all : (head : List ℕ) {p₁ p₂ p₃ p₄ p₅ p₆ p : Bool} → u32s head ≡ fileHead n → Has b 0 (u32s head) p₁ → not p₁ ≡ false
       → Has b 96 (entriesFrom SavedBlocks 0 n) p₂ → not p₂ ≡ false
       → Has b (96 + 16 * n) (u32s (replicate 6 0)) p₃ → not p₃ ≡ false
       → Has b (120 + 16 * n) (entriesFrom Objects 0 n) p₄ → not p₄ ≡ false
       → Has b (120 + 40 * n) (u32s (replicate 4 0)) p₅ → not p₅ ≡ false
       → Has b (136 + 40 * n) (entriesFrom Dependents 0 n) p₆ → not p₆ ≡ false
       → Has b (136 + 48 * n) (u32s (replicate 2 0)) p → p ≡ same b (fileWrapper n)
-  has-all e₁ f₁ e₂ f₂ e₃ f₃ e₄ f₄ e₅ f₅ e₆ f₆ e = e .is ∙ sym (whole ∙ simp (has e₁ f₁, has e₂ f₂, has e₃ f₃, has e₄ f₄, has e₅ f₅, has e₆ f₆))
+  has-all head h e₁ f₁ e₂ f₂ e₃ f₃ e₄ f₄ e₅ f₅ e₆ f₆ e = e .is ∙ sym (whole ∙ simp (has (head-has head h e₁) f₁, has e₂ f₂, has e₃ f₃, has e₄ f₄, has e₅ f₅, has e₆ f₆))
 
 -- ---- whether bytes are the blob, where m is n as an index
 

@@ -13,6 +13,8 @@ has-file-wrapper-spec =
     (tie.spec
     (λ c. search needs)
     (λ c κs. search needs)
+    (λ c. search needs)
+    (λ c κs. search needs)
     (λ c. search (lacks-head, needs))
     (λ c κs. (search needs, search needs, simp length-entries (omega arith)))
     (λ c. search (lacks-blocks, needs))
