@@ -1,8 +1,8 @@
 -- The index of the blocks of both regions, and the cursors of their walks.
 -- Assumes nothing.
-use mathlib.Core.Path.{_≡_, refl, sym, ap, _∙_, subst}
+use mathlib.Core.Path.{_≡_, refl, ap, _∙_, subst}
 use mathlib.Core.List.{List}
-use Prim.Native.Nat.{ℕ, zero, suc, _+_, _-_, _*_, _/_, _%_, _^_, _≤_, _<_}
+use Prim.Native.Nat.{ℕ, _+_, _-_, _*_, _/_, _%_, _^_, _≤_, _<_}
 use native.Mathlib.Nat.{add-mul, div-mul-le-self, le-div-iff-mul-le, lt-of-mul-lt-mul-right, div-le-self, div-add-mod', mod-le}
 use native.Mathlib.Omega.{arith}
 use borrow.Author.Tests.{eqb-true, eqb-false}
@@ -13,9 +13,8 @@ use Rattle.text.specs.declared.error.MatError.{MatError}
 use Rattle.text.proofs.TestLaws.{either}
 use Rattle.reader.specs.Blocks.{blockEnd, blockAt}
 use Rattle.reader.specs.Stages.Blocks.{HasBlock}
-use Rattle.reader.specs.Stages.Listing.{PlanFor, IsPlan, firstEntry, indexEntry, IsEntry, Fills, Indexes, IsCursor, cursorAt, cursorFrom, cursorOf, withCursor, firstCursors, AreCursors, EntryInside, Nearest, ToBlock, IsListing, HasIndex}
+use Rattle.reader.specs.Stages.Listing.{PlanFor, IsPlan, firstEntry, indexEntry, IsEntry, Fills, IsCursor, cursorAt, cursorFrom, cursorOf, withCursor, firstCursors, AreCursors, EntryInside, Nearest, ToBlock, IsListing, HasIndex}
 use Rattle.reader.specs.Objects.{regionStart, regionBlocks}
-use Rattle.reader.specs.Stages.Opening.{Opens}
 use Rattle.reader.specs.declared.file_wrapper.FileWrapper.{FileWrapper}
 use Rattle.reader.specs.declared.listing.Cursor.{Cursor}
 use Rattle.reader.specs.declared.listing.Cursors.{Cursors}
@@ -216,9 +215,6 @@ module _ {b index : List ℕ} {p : Plan} {cs : Cursors} {k : BlockId} (to : ToBl
   block-near =
       let l : k .id / p .stride ≤ regionBlocks (p .w) (k .region) / p .stride = le-div-iff-mul-le {x = k .id / p .stride} {y = regionBlocks (p .w) (k .region)} (to .plan .plan .least) .1 (omega (arith, div-mul-le-self (k .id) (p .stride), to .below)) in
       record { least = to .plan .plan .least; room = omega (arith, l, blocks-room (to .plan) (k .region)) }
-
-  pub block-entries : length index ≡ 8192
-  block-entries = to .indexes .size
 
   module _ {c : Cursor} (near : Nearest index p cs k c) where
     near-is : IsCursor b (regionStart (p .w) (k .region)) c

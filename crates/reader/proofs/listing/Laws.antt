@@ -3,7 +3,7 @@
 use mathlib.Core.Path.{_≡_, refl, sym, ap, _∙_, subst}
 use mathlib.Core.Bool.{Bool, true, false}
 use mathlib.Core.List.{List, [], _∷_, _++_}
-use Prim.Native.Nat.{ℕ, zero, suc, _+_, _-_, _*_, _^_, _≤_, _<_, min}
+use Prim.Native.Nat.{ℕ, zero, suc, _+_, _-_, _^_, _≤_, _<_, min}
 use native.Mathlib.Numerals.{add-one}
 use native.Mathlib.Omega.{arith}
 use borrow.Author.Tests.{le-leb, lt-leb, leb-true}
@@ -197,14 +197,11 @@ module _ (b : List ℕ) (room : ℕ) {x : ParseReply} (e : parseReplyOf x ≡ op
 -- ---- one object more
 
 module _ {b index : List ℕ} {s : Step} {i : ℕ} (to : ToNext b index s i) where
-  pub next-opens : Opens b (s .plan .w)
+  next-opens : Opens b (s .plan .w)
   next-opens = to .listable .plan .opens
 
   pub next-fits : i < 2 ^ 32
   next-fits = omega (arith, few next-opens, to .below)
-
-  pub next-below : i + 1 < s .plan .w .records
-  next-below = to .below
 
   is-row : objectOf b (s .plan .w) (i + 1) ≡ ok (getD (allObjects b) i noRow)
   is-row = object-at b (s .plan .w) 1 (s .plan .w .records - 1) (to .listable .rows) i (i + 1) (omega arith) (omega (arith, to .below))
