@@ -3,10 +3,10 @@ use native.Mathlib.Omega.{arith}
 use lib.Seq.{length-take-le}
 use Rattle.text.proofs.utf8.Lossy.{written-fits}
 use borrow.Author.Needs.{needs}
-use Rattle.repair.proofs.print_repaired.Statement.{statement}
-use Rattle.repair.proofs.print_repaired.Tie as tie
-use Rattle.repair.proofs.print_repaired.Reads as reads
-use Rattle.repair.proofs.print_repaired.Lts as lts
+use Rattle.reader_names.proofs.print_repaired.Statement.{statement}
+use Rattle.reader_names.proofs.print_repaired.Tie as tie
+use Rattle.reader_names.proofs.print_repaired.Reads as reads
+use Rattle.reader_names.proofs.print_repaired.Lts as lts
 use Rattle.io.proofs.buffer.Reads as buffer-reads
 use Rattle.io.proofs.print_decimal.Reads as print-decimal-reads
 use Rattle.io.proofs.read_full.Reads as read-full-reads

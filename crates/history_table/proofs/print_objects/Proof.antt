@@ -1,9 +1,9 @@
--- `table::print_objects` is safe and ends.
+-- `history_table::print_objects` is safe and ends.
 -- Assumes nothing.
 use Prim.Native.Nat.{_-_, _≤_}
 use borrow.Author.Needs.{needs}
-use Rattle.table.proofs.print_objects.Statement.{statement}
-use Rattle.table.proofs.print_objects.Tie as tie
+use Rattle.history_table.proofs.print_objects.Statement.{statement}
+use Rattle.history_table.proofs.print_objects.Tie as tie
 
 abbrev Inv-loop : tie.InvT-loop
 Inv-loop blob directory kinds words id₀ id = id ≤ 6

@@ -1,10 +1,10 @@
--- `table::print_strings` is safe and ends.
+-- `history_table::print_strings` is safe and ends.
 -- Assumes nothing.
 use Prim.Native.Nat.{_-_, _≤_}
 use lib.ListN.{length}
 use borrow.Author.Needs.{needs}
-use Rattle.table.proofs.print_strings.Statement.{statement}
-use Rattle.table.proofs.print_strings.Tie as tie
+use Rattle.history_table.proofs.print_strings.Statement.{statement}
+use Rattle.history_table.proofs.print_strings.Tie as tie
 
 abbrev Inv-loop : tie.InvT-loop
 Inv-loop text spans i₀ t4 t5 t6 i = i ≤ length spans

@@ -1,9 +1,9 @@
--- `repair::print_labels` meets its contract.
+-- `reader_names::print_labels` meets its contract.
 -- Assumes nothing.
 use Prim.Native.Nat.{_-_, _≤_}
 use borrow.Author.Needs.{needs}
-use Rattle.repair.proofs.print_labels.Statement.{statement}
-use Rattle.repair.proofs.print_labels.Tie as tie
+use Rattle.reader_names.proofs.print_labels.Statement.{statement}
+use Rattle.reader_names.proofs.print_labels.Tie as tie
 
 abbrev Inv-loop : tie.InvT-loop
 Inv-loop blob placeholder names index₀ index = index ≤ names

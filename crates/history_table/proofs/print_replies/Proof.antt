@@ -1,10 +1,10 @@
--- `table::print_replies` is safe and ends.
+-- `history_table::print_replies` is safe and ends.
 -- Assumes nothing.
 use Prim.Native.Nat.{_-_, _≤_}
 use lib.ListN.{length}
 use borrow.Author.Needs.{needs}
-use Rattle.table.proofs.print_replies.Statement.{statement}
-use Rattle.table.proofs.print_replies.Tie as tie
+use Rattle.history_table.proofs.print_replies.Statement.{statement}
+use Rattle.history_table.proofs.print_replies.Tie as tie
 
 abbrev Inv-loop : tie.InvT-loop
 Inv-loop replies i₀ t3 t4 t5 t6 i = i ≤ length replies
