@@ -17,10 +17,10 @@ use Rattle.text.proofs.ResultLaws.{each-holds}
 use Rattle.text.proofs.ScalarLaws.{below-append}
 use Rattle.text.proofs.TestLaws.{within-yes}
 use Rattle.text.proofs.Utf16Laws.{units-text, units-below}
-use Rattle.writer.specs.Array.{Array, stringUnits, unitCounts, allUnits, stringWords, payload, isShape, arrayOf}
+use Rattle.writer.specs.Array.{Array, stringUnits, unitCounts, allUnits, payload, isShape, arrayOf}
 use Rattle.writer.specs.Spans.{isSome}
 use Rattle.writer.specs.Words.{packed}
-use Rattle.writer.proofs.ArrayLaws.{array-passed, strings-well-formed}
+use Rattle.writer.proofs.ArrayLaws.{payload-is, array-passed, strings-well-formed}
 use Rattle.writer.proofs.ShapeLaws.{shape-product}
 use Rattle.writer.proofs.SpanLaws.{strings-at}
 use Rattle.writer.proofs.StringWordLaws.{length-strings, all-units-append}
@@ -84,9 +84,9 @@ module _ (a : Array) (x : List ℕ) (h : Writable a x) where
   w = head ds ss ++ (packed (allUnits ss) ++ x)
 
   split : payload a ++ x ≡ w
-  unfolding payload stringWords
   split =
-      ap (λ (r : List ℕ). (1 ∷ length ds ∷ r) ++ x) (sym (append-assoc ds (unitCounts ss) (packed (allUnits ss))))
+      ap (λ (r : List ℕ). r ++ x) (payload-is a)
+      ∙ ap (λ (r : List ℕ). (1 ∷ length ds ∷ r) ++ x) (sym (append-assoc ds (unitCounts ss) (packed (allUnits ss))))
       ∙ append-assoc (head ds ss) (packed (allUnits ss)) x
 
   length-counts : length (unitCounts ss) ≡ n

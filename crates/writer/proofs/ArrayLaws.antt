@@ -1,4 +1,4 @@
--- The length of a payload, what an array that passed its checks is, and that strings end to end pass theirs.
+-- The words of a payload, what an array that passed its checks is, and that strings end to end pass theirs.
 -- Assumes nothing.
 use Prim.Native.Nat.{ℕ, suc, _+_, _-_, _*_, _/_, _%_, _≤_, _<_}
 use mathlib.Core.Path.{_≡_, refl, sym, ap, ap₂, _∙_}
@@ -14,14 +14,19 @@ use lib.Seq.{drop-drop, drop-at, take-at, getD-drop}
 use Rattle.text.specs.Result.{ok, check, foldRange, _>>_}
 use Rattle.text.specs.Utf8.{unitsOf}
 use Rattle.text.proofs.ResultLaws.{check-passed, seq-passed, bind-passed, foldRange-done, foldRange-yes, foldRange-step}
-use Rattle.writer.specs.Array.{Array, stringUnits, stringWords, payload, isShape, checkShape, arrayOf}
+use Rattle.writer.specs.Array.{Array, stringUnits, unitCounts, allUnits, stringWords, payload, isShape, checkShape, arrayOf}
 use Rattle.writer.specs.Spans.{offsetAt, lengthAt, endAt, stringAt, stringsFrom, stringsIn, joined, spansFrom, isSome, checkString, checkStrings}
 use Rattle.writer.specs.Stages.Payload.{arrayIn}
+use Rattle.writer.specs.Words.{packed}
 use Rattle.writer.proofs.LayoutLaws.{length-spans}
 use Rattle.writer.proofs.SpanLaws.{Passed, string-passed}
 use Rattle.writer.proofs.StringWordLaws.{length-strings}
 
--- ---- lengths
+-- ---- the words of a payload
+
+pub payload-is : (a : Array) → payload a ≡ 1 ∷ length (a .dims) ∷ (a .dims ++ (unitCounts (a .strings) ++ packed (allUnits (a .strings))))
+unfolding payload stringWords
+payload-is a = refl
 
 pub length-payload : (a : Array) → length (payload a) ≡ 2 + length (a .dims) + length (stringWords (a .strings))
 unfolding payload
@@ -112,3 +117,9 @@ cut-again ss f =
     let r = cut-from (joined ss) (spansFrom 0 ss) ss 0 (length ss) 0 (omega arith) f refl refl (omega arith) in
     let k : length (spansFrom 0 ss) / 2 ≡ length ss = omega (arith, length-spans 0 ss) in
     simp (eq-eqb (length (spansFrom 0 ss) % 2) 0 (omega (arith, length-spans 0 ss)), k, r .0) (ap ok (r .1))
+
+-- the array of strings that pass, by its shape and its words
+pub array-accepted : (dims text spans : List ℕ) {ss : List (List ℕ)} → checkStrings text spans ≡ ok ss → isShape dims (length ss) ≡ true
+    → length (payload (record { dims = dims; strings = ss })) ≤ 2097152 → arrayOf dims text spans ≡ ok (record { dims = dims; strings = ss })
+unfolding arrayOf
+array-accepted dims text spans {ss} e s l = rw (e, s, le-leb (length (payload (record { dims = dims; strings = ss }))) 2097152 l)

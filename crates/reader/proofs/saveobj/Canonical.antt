@@ -8,7 +8,7 @@ use mathlib.Core.Option.{Option, some, Option·getD}
 use Prim.Native.Nat.{ℕ, zero, suc, _+_, _-_, _*_, _/_, _%_, _^_, _≤_, _<_}
 use native.Mathlib.Nat.{zero-add}
 use native.Mathlib.Omega.{arith}
-use borrow.Author.Tests.{le-leb, eq-eqb, eqb-true, not-true, not-false}
+use borrow.Author.Tests.{eq-eqb, eqb-true, not-true, not-false}
 use lib.ListN.{length, getD, take, drop, length-drop, length-map, take-append-drop, List·getD-append}
 use lib.Seq.{drop-cons, drop-drop, drop-at, getD-drop, getD-take, ext-getD, length-take-le}
 use Rattle.text.specs.Buffer.{same}
@@ -21,10 +21,10 @@ use Rattle.text.proofs.ResultLaws.{reply-is}
 use Rattle.text.proofs.SameLaws.{same-refl, same-is}
 use Rattle.text.proofs.TestLaws.{and-is, not-both, equal-or}
 use Rattle.text.proofs.Utf16Laws.{text-units}
-use Rattle.writer.specs.Array.{Array, Accepted, stringUnits, unitCounts, allUnits, stringWords, payload, arrayOf}
+use Rattle.writer.specs.Array.{Array, Accepted, stringUnits, unitCounts, allUnits, payload, arrayOf}
 use Rattle.writer.specs.Spans.{isSome, joined, spansFrom}
 use Rattle.writer.specs.Words.{packed}
-use Rattle.writer.proofs.ArrayLaws.{cut-again}
+use Rattle.writer.proofs.ArrayLaws.{payload-is, cut-again, array-accepted}
 use Rattle.writer.proofs.ShapeLaws.{shape-is}
 use Rattle.writer.proofs.WordLaws.{length-packed, padded}
 use Rattle.reader.specs.Saveobj.{dimCount, unitCount, unitsBefore, storedUnits, storedStrings, checkPairing, decodePayload, decodedArray, isCanonicalPayload}
@@ -152,9 +152,9 @@ module _ (p : List ℕ) (base n : ℕ) (d : Decoded p base n) where
   length-counts = length-map ss (λ (s : List ℕ). length (stringUnits s)) ∙ length-stored p base n 0 n
 
   array-is : payload (decodedArray p) ≡ 1 ∷ length dims ∷ (dims ++ (unitCounts ss ++ packed units))
-  unfolding payload stringWords
   array-is =
-      ap (λ (rs : List (List ℕ)). 1 ∷ length dims ∷ (dims ++ (unitCounts rs ++ packed (allUnits rs)))) (d .strings .is)
+      payload-is (decodedArray p)
+      ∙ ap (λ (rs : List (List ℕ)). 1 ∷ length dims ∷ (dims ++ (unitCounts rs ++ packed (allUnits rs)))) (d .strings .is)
       ∙ ap (λ (us : List ℕ). 1 ∷ length dims ∷ (dims ++ (unitCounts ss ++ packed us))) units-are
 
   -- ---- from the written form
@@ -222,11 +222,12 @@ module _ (p : List ℕ) (base n : ℕ) (d : Decoded p base n) where
       ap isSome (ap unitsOf (stored-at p base n i h) ∙ string-well-formed i h)
 
   array-of : length (payload (decodedArray p)) ≤ 2097152 → arrayOf dims (joined ss) (spansFrom 0 ss) ≡ ok (decodedArray p)
-  unfolding arrayOf
   array-of l =
       let a : Array = record { dims = dims; strings = ss } in
       let e : a ≡ decodedArray p = ap (λ (rs : List (List ℕ)). record { dims = dims; strings = rs }) (sym (d .strings .is)) in
-      rw (cut-again ss well-formed, length-stored p base n 0 n, shape-is dims n (d .header .product), e, le-leb (length (payload (decodedArray p))) 2097152 l)
+      array-accepted dims (joined ss) (spansFrom 0 ss) (cut-again ss well-formed)
+      (rw (length-stored p base n 0 n) (shape-is dims n (d .header .product))) (rw e l)
+      ∙ ap ok e
 
   accepted-of : payload (decodedArray p) ≡ p → Accepted (decodedArray p)
   accepted-of e = record { dims = dims; text = joined ss; spans = spansFrom 0 ss; is = array-of (rw e (d .header .most)) }
