@@ -17,11 +17,12 @@ use Rattle.text.proofs.ResultLaws.{each-holds}
 use Rattle.text.proofs.ScalarLaws.{below-append}
 use Rattle.text.proofs.TestLaws.{within-yes}
 use Rattle.text.proofs.Utf16Laws.{units-text, units-below}
-use Rattle.writer.specs.Array.{Array, stringUnits, unitCounts, allUnits, stringWords, payload, isShape, arrayOf}
-use Rattle.writer.specs.Spans.{stringAt, stringsFrom, isSome}
+use Rattle.writer.specs.Array.{Array, stringUnits, unitCounts, allUnits, payload, isShape, arrayOf}
+use Rattle.writer.specs.Spans.{isSome}
 use Rattle.writer.specs.Words.{packed}
-use Rattle.writer.proofs.ArrayLaws.{array-passed, strings-well-formed}
+use Rattle.writer.proofs.ArrayLaws.{payload-is, array-passed, strings-well-formed}
 use Rattle.writer.proofs.ShapeLaws.{shape-product}
+use Rattle.writer.proofs.SpanLaws.{strings-at}
 use Rattle.writer.proofs.StringWordLaws.{length-strings, all-units-append}
 use Rattle.writer.proofs.WordLaws.{length-packed}
 use Rattle.reader.specs.Saveobj.{storedDims, unitCount, unitsBefore, storedUnits, storedStrings, checkHeader, checkSum, checkUnitCount, checkPairing, decodePayload}
@@ -83,9 +84,9 @@ module _ (a : Array) (x : List ℕ) (h : Writable a x) where
   w = head ds ss ++ (packed (allUnits ss) ++ x)
 
   split : payload a ++ x ≡ w
-  unfolding payload stringWords
   split =
-      ap (λ (r : List ℕ). (1 ∷ length ds ∷ r) ++ x) (sym (append-assoc ds (unitCounts ss) (packed (allUnits ss))))
+      ap (λ (r : List ℕ). r ++ x) (payload-is a)
+      ∙ ap (λ (r : List ℕ). (1 ∷ length ds ∷ r) ++ x) (sym (append-assoc ds (unitCounts ss) (packed (allUnits ss))))
       ∙ append-assoc (head ds ss) (packed (allUnits ss)) x
 
   length-counts : length (unitCounts ss) ≡ n
@@ -185,16 +186,6 @@ module _ (a : Array) (x : List ℕ) (h : Writable a x) where
   round-trip-of = rw split (rw header-is (rw lengths-are strings-are))
 
 -- ---- an array that writing accepted
-
-strings-at : (text spans : List ℕ) (n i k : ℕ) → k < n → getD (stringsFrom text spans i n) k [] ≡ stringAt text spans (i + k)
-unfolding stringsFrom
-strings-at text spans zero i k h = absurd (omega arith)
-strings-at text spans (suc n) i zero h =
-    let z : i + 0 ≡ i = omega arith in
-    rw z
-strings-at text spans (suc n) i (suc k) h =
-    let s : i + suc k ≡ suc i + k = omega arith in
-    rw s (strings-at text spans n (suc i) k (omega arith))
 
 pub writable : (dims text spans : List ℕ) {a : Array} → arrayOf dims text spans ≡ ok a → (x : List ℕ) → length (payload a ++ x) ≤ 2097152 → Writable a x
 writable dims text spans {a} e x m =

@@ -151,6 +151,14 @@ joined-append (s ∷ ss) ts = ap (λ (r : List ℕ). s ++ r) (joined-append ss t
 pub length-joined : (ss ts : List (List ℕ)) → length (joined (ss ++ ts)) ≡ length (joined ss) + length (joined ts)
 length-joined ss ts = ap length (joined-append ss ts) ∙ length-append (joined ss) (joined ts)
 
+pub spans-none : (o : ℕ) → spansFrom o [] ≡ []
+unfolding spansFrom
+spans-none o = refl
+
+pub spans-cons : (o : ℕ) (s : List ℕ) (ss : List (List ℕ)) → spansFrom o (s ∷ ss) ≡ o ∷ length s ∷ spansFrom (o + length s) ss
+unfolding spansFrom
+spans-cons o s ss = refl
+
 pub spans-append : (o : ℕ) (ss ts : List (List ℕ)) → spansFrom o (ss ++ ts) ≡ spansFrom o ss ++ spansFrom (o + length (joined ss)) ts
 unfolding spansFrom flatMap
 spans-append o [] ts = rw (add-zero o)

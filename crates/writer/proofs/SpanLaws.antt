@@ -1,6 +1,6 @@
 -- Check 30 for one string: the outcomes of `measure_string`, and what a string that passed is.
 -- Assumes nothing.
-use Prim.Native.Nat.{ℕ, suc, _+_, _-_, _≤_, _<_}
+use Prim.Native.Nat.{ℕ, zero, suc, _+_, _-_, _≤_, _<_}
 use mathlib.Core.Path.{_≡_, refl, sym, ap, _∙_}
 use mathlib.Core.Bool.{true}
 use mathlib.Core.List.{List, [], _∷_, flatMap}
@@ -9,7 +9,7 @@ use native.Mathlib.Numerals.{add-one}
 use native.Mathlib.Omega.{arith}
 use borrow.Author.Tests.{le-leb, lt-leb, leb-true}
 use lib.Dec.{leb}
-use lib.ListN.{length, take, drop, length-take, length-append}
+use lib.ListN.{length, getD, take, drop, length-take, length-append}
 use Rattle.text.specs.Replies.{countUnits, CountsUnits}
 use Rattle.text.specs.Result.{ok, error, check, _>>_}
 use Rattle.text.specs.Unicode.{utf16s}
@@ -133,6 +133,16 @@ unfolding stringsFrom
 strings-cons text spans i n h =
     let k : n - i ≡ suc (n - suc i) = omega arith in
     rw (k, add-one i)
+
+pub strings-at : (text spans : List ℕ) (n i k : ℕ) → k < n → getD (stringsFrom text spans i n) k [] ≡ stringAt text spans (i + k)
+unfolding stringsFrom
+strings-at text spans zero i k h = absurd (omega arith)
+strings-at text spans (suc n) i zero h =
+    let z : i + 0 ≡ i = omega arith in
+    rw z
+strings-at text spans (suc n) i (suc k) h =
+    let s : i + suc k ≡ suc i + k = omega arith in
+    rw s (strings-at text spans n (suc i) k (omega arith))
 
 pub units-cons : (s : List ℕ) (ss : List (List ℕ)) → length (allUnits (s ∷ ss)) ≡ length (stringUnits s) + length (allUnits ss)
 unfolding flatMap

@@ -13,8 +13,8 @@ use Rattle.text.specs.declared.reply.Checked.{Checked}
 use Rattle.text.specs.declared.reply.Checked.the-variants as checked
 use Rattle.text.proofs.BufferLaws.{put-none}
 use Rattle.text.proofs.ResultLaws.{reply-is, bind-passed}
-use Rattle.writer.specs.Spans.{joined, spansFrom}
-use Rattle.writer.proofs.LayoutLaws.{length-joined}
+use Rattle.writer.specs.Spans.{joined}
+use Rattle.writer.proofs.LayoutLaws.{length-joined, spans-none}
 use Rattle.reader.specs.Stages.Cells.{ReadsCell}
 use Rattle.reader.specs.Cells.{checkDirectory, cellOf}
 use Rattle.reader.specs.Decode.{idStrings, idsStrings, metadataStrings}
@@ -183,11 +183,11 @@ module _ (directory kinds words metadata : List ℕ) where
 
   module _ (first n : ℕ) (t₀ s₀ : List ℕ) where
     pub puts-start : WritingIds first n t₀ s₀ origin t₀ s₀ 0
-    unfolding flatMap spansFrom
+    unfolding flatMap
     puts-start = record {
       bound = omega arith;
       written = rw (ids-zero first)
-          (record { strings = omega arith; writes = record { end = omega arith; text-after = sym (put-none t₀ 0); spans-after = sym (put-none s₀ (2 * 0)) } });
+          (record { strings = omega arith; writes = record { end = omega arith; text-after = sym (put-none t₀ 0); spans-after = rw spans-none (sym (put-none s₀ (2 * 0))) } });
     }
 
     module _ (f : IdsFit directory kinds words metadata first n (length t₀) (length s₀)) {at : Position} {t s : List ℕ} {i : ℕ} (m : WritingIds first n t₀ s₀ at t s i) where

@@ -7,11 +7,11 @@ use native.Mathlib.Omega.{arith}
 use borrow.Author.Tests.{le-leb, lt-leb, eq-eqb, ne-eqb, leb-true, eqb-true}
 use lib.Dec.{leb, eqb}
 use lib.ListN.{length, getD, take, drop}
-use Rattle.text.specs.Product.{productOf, productFrom}
+use Rattle.text.specs.Product.{productOf}
 use Rattle.text.specs.Result.{ok, error}
 use Rattle.text.specs.declared.convert.Product.{Product}
 use Rattle.text.specs.declared.convert.Product.the-variants.{Of, OverflowAt}
-use Rattle.text.proofs.convert.Products.{product-is, product-passed}
+use Rattle.text.proofs.convert.Products.{product-scalar, product-is, product-passed}
 use Rattle.text.proofs.ResultLaws.{check-passed}
 use Rattle.writer.specs.Metadata.{objectMetadata}
 use Rattle.reader.specs.Opaque.{opaqueMetadata}
@@ -95,8 +95,8 @@ opaque-passed w {m} e =
 
 -- one id, at position 4, of class 1
 pub written-reads : (id : ℕ) → opaqueMetadata (objectMetadata id) ≡ ok (record { «first_id» = 4; ids = 1; «class_id» = 1 })
-unfolding opaqueMetadata productOf productFrom
-written-reads id = refl
+unfolding opaqueMetadata
+written-reads id = rw product-scalar
 
 -- and it is that id
 pub written-id : (id : ℕ) → getD (objectMetadata id) 4 0 ≡ id

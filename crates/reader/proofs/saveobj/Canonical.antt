@@ -8,11 +8,11 @@ use mathlib.Core.Option.{Option, some, Option·getD}
 use Prim.Native.Nat.{ℕ, zero, suc, _+_, _-_, _*_, _/_, _%_, _^_, _≤_, _<_}
 use native.Mathlib.Nat.{zero-add}
 use native.Mathlib.Omega.{arith}
-use borrow.Author.Tests.{le-leb, eq-eqb, eqb-true, not-true, not-false}
-use lib.ListN.{length, getD, take, drop, length-append, length-drop, length-map, take-append-drop, List·getD-append}
-use lib.Seq.{drop-cons, drop-drop, drop-at, take-at, getD-drop, getD-take, ext-getD, length-take-le}
+use borrow.Author.Tests.{eq-eqb, eqb-true, not-true, not-false}
+use lib.ListN.{length, getD, take, drop, length-drop, length-map, take-append-drop, List·getD-append}
+use lib.Seq.{drop-cons, drop-drop, drop-at, getD-drop, getD-take, ext-getD, length-take-le}
 use Rattle.text.specs.Buffer.{same}
-use Rattle.text.specs.Result.{Result, ok, error, foldCount, foldRange, isOk, valuesOf, mapResult}
+use Rattle.text.specs.Result.{Result, ok, error, isOk, valuesOf, mapResult}
 use Rattle.text.specs.Utf8.{unitsOf}
 use Rattle.text.specs.Utf16.{theText}
 use Rattle.text.specs.declared.error.Failure.{Failure}
@@ -21,10 +21,10 @@ use Rattle.text.proofs.ResultLaws.{reply-is}
 use Rattle.text.proofs.SameLaws.{same-refl, same-is}
 use Rattle.text.proofs.TestLaws.{and-is, not-both, equal-or}
 use Rattle.text.proofs.Utf16Laws.{text-units}
-use Rattle.writer.specs.Array.{Array, Accepted, stringUnits, unitCounts, allUnits, stringWords, payload, arrayOf}
-use Rattle.writer.specs.Spans.{offsetAt, lengthAt, stringAt, stringsFrom, isSome, checkString, checkStrings, joined, spansFrom}
+use Rattle.writer.specs.Array.{Array, Accepted, stringUnits, unitCounts, allUnits, payload, arrayOf}
+use Rattle.writer.specs.Spans.{isSome, joined, spansFrom}
 use Rattle.writer.specs.Words.{packed}
-use Rattle.writer.proofs.LayoutLaws.{length-spans}
+use Rattle.writer.proofs.ArrayLaws.{payload-is, cut-again, array-accepted}
 use Rattle.writer.proofs.ShapeLaws.{shape-is}
 use Rattle.writer.proofs.WordLaws.{length-packed, padded}
 use Rattle.reader.specs.Saveobj.{dimCount, unitCount, unitsBefore, storedUnits, storedStrings, checkPairing, decodePayload, decodedArray, isCanonicalPayload}
@@ -43,39 +43,6 @@ use Rattle.reader.proofs.saveobj.Payload.{PayloadPassed, strings-passed
 use Rattle.reader.proofs.RoundTrip.{counts-at}
 use Rattle.reader.proofs.saveobj.Strings.{length-stored}
 use Rattle.reader.proofs.units.Laws.{length-units, units-below}
-
--- ---- strings end to end
-
--- from byte o of a text and span i on they pass 30, and are cut out again
-module _ (t s : List ℕ) where
-  cut-from : (ss : List (List ℕ)) (i o : ℕ) → ((j : ℕ) → j < length ss → isSome (unitsOf (getD ss j [])) ≡ true)
-      → drop (2 * i) s ≡ spansFrom o ss → drop o t ≡ joined ss → o ≤ length t
-      → (foldCount (checkString t s) i (length ss) o ≡ ok (o + length (joined ss))) × (stringsFrom t s i (length ss) ≡ ss)
-  unfolding foldCount checkString stringsFrom spansFrom flatMap
-  cut-from [] i o f es et l = (ap ok (omega arith), refl)
-  cut-from (x ∷ ss) i o f es et l =
-      let z : 2 * i + 0 ≡ 2 * i = omega arith in
-      let k : 2 * suc i ≡ 2 * i + 2 = omega arith in
-      let a : offsetAt s i ≡ o = rw z at (sym (getD-drop (2 * i) s 0 0) ∙ ap (λ (r : List ℕ). getD r 0 0) es) in
-      let b : lengthAt s i ≡ length x = sym (getD-drop (2 * i) s 1 0) ∙ ap (λ (r : List ℕ). getD r 1 0) es in
-      let c : stringAt t s i ≡ x = rw (a, b) (ap (take (length x)) et ∙ take-at x (joined ss) (length x) refl) in
-      let m = length-append x (joined ss) in
-      let w : o + length x ≤ length t = omega (arith, ap length et, length-drop o t) in
-      let e : o + length x + length (joined ss) ≡ o + length (x ++ joined ss) = omega arith in
-      let r =
-      cut-from ss (suc i) (o + length x) (λ j h. f (suc j) (omega arith)) (rw k (sym (drop-drop 2 (2 * i) s) ∙ ap (drop 2) es))
-      (sym (drop-drop (length x) o t) ∙ ap (drop (length x)) et ∙ drop-at x (joined ss) (length x) refl) w in (
-        rw (c, a, b, le-leb o o (omega arith), le-leb (o + length x) (length t) w, f 0 (omega arith)) (r .0 ∙ ap ok e),
-        ap₂ (λ (y : List ℕ) (q : List (List ℕ)). y ∷ q) c (r .1),
-      )
-
-pub cut-again : (ss : List (List ℕ)) → ((j : ℕ) → j < length ss → isSome (unitsOf (getD ss j [])) ≡ true) → checkStrings (joined ss) (spansFrom 0 ss) ≡ ok ss
-unfolding checkStrings foldRange
-cut-again ss f =
-    let r = cut-from (joined ss) (spansFrom 0 ss) ss 0 0 f refl refl (omega arith) in
-    let k : length (spansFrom 0 ss) / 2 ≡ length ss = omega (arith, length-spans 0 ss) in
-    let z : length ss - 0 ≡ length ss = omega arith in
-    simp (eq-eqb (length (spansFrom 0 ss) % 2) 0 (omega (arith, length-spans 0 ss)), k, z, r .0) (ap ok (r .1))
 
 -- ---- a payload that decodes
 
@@ -185,9 +152,9 @@ module _ (p : List ℕ) (base n : ℕ) (d : Decoded p base n) where
   length-counts = length-map ss (λ (s : List ℕ). length (stringUnits s)) ∙ length-stored p base n 0 n
 
   array-is : payload (decodedArray p) ≡ 1 ∷ length dims ∷ (dims ++ (unitCounts ss ++ packed units))
-  unfolding payload stringWords
   array-is =
-      ap (λ (rs : List (List ℕ)). 1 ∷ length dims ∷ (dims ++ (unitCounts rs ++ packed (allUnits rs)))) (d .strings .is)
+      payload-is (decodedArray p)
+      ∙ ap (λ (rs : List (List ℕ)). 1 ∷ length dims ∷ (dims ++ (unitCounts rs ++ packed (allUnits rs)))) (d .strings .is)
       ∙ ap (λ (us : List ℕ). 1 ∷ length dims ∷ (dims ++ (unitCounts ss ++ packed us))) units-are
 
   -- ---- from the written form
@@ -255,11 +222,12 @@ module _ (p : List ℕ) (base n : ℕ) (d : Decoded p base n) where
       ap isSome (ap unitsOf (stored-at p base n i h) ∙ string-well-formed i h)
 
   array-of : length (payload (decodedArray p)) ≤ 2097152 → arrayOf dims (joined ss) (spansFrom 0 ss) ≡ ok (decodedArray p)
-  unfolding arrayOf
   array-of l =
       let a : Array = record { dims = dims; strings = ss } in
       let e : a ≡ decodedArray p = ap (λ (rs : List (List ℕ)). record { dims = dims; strings = rs }) (sym (d .strings .is)) in
-      rw (cut-again ss well-formed, length-stored p base n 0 n, shape-is dims n (d .header .product), e, le-leb (length (payload (decodedArray p))) 2097152 l)
+      array-accepted dims (joined ss) (spansFrom 0 ss) (cut-again ss well-formed)
+      (rw (length-stored p base n 0 n) (shape-is dims n (d .header .product))) (rw e l)
+      ∙ ap ok e
 
   accepted-of : payload (decodedArray p) ≡ p → Accepted (decodedArray p)
   accepted-of e = record { dims = dims; text = joined ss; spans = spansFrom 0 ss; is = array-of (rw e (d .header .most)) }

@@ -3,7 +3,7 @@
 use Prim.Native.Nat.{ℕ, zero, suc, _+_, _-_, _*_, _/_, _^_, _≤_, _<_}
 use mathlib.Core.Path.{_≡_, refl, sym, ap, subst, _∙_}
 use mathlib.Core.Bool.{Bool, true, false, not, _&&_}
-use mathlib.Core.List.{List, [], _∷_, _++_, append-assoc, flatMap}
+use mathlib.Core.List.{List, [], _∷_, _++_, flatMap}
 use mathlib.Core.Option.{some}
 use native.Mathlib.Nat.{add-zero}
 use native.Mathlib.Numerals.{add-one}
@@ -23,7 +23,7 @@ use Rattle.text.proofs.ResultLaws.{Checks, checks-start, checks-turn, checks-st
 use Rattle.text.proofs.ScalarLaws.{gap-below}
 use Rattle.text.proofs.TestLaws.{and-is, within-is}
 use Rattle.writer.specs.Spans.{isSome, joined, spansFrom}
-use Rattle.writer.proofs.LayoutLaws.{joined-cons, length-spans}
+use Rattle.writer.proofs.LayoutLaws.{joined-cons, spans-none, spans-cons, length-spans}
 use Rattle.writer.proofs.SpanLaws.{counted-some, counted-none}
 use Rattle.reader.specs.Saveobj.{unitCount, unitsBefore, storedUnits, storedStrings, checkPairing}
 use Rattle.reader.specs.Replies.{sizeOf}
@@ -296,8 +296,7 @@ module _ (payload : List ℕ) (base n : ℕ) (t₀ : List ℕ) (start : ℕ) (s�
     }
 
     spans-next : Splits (spansFrom byte (left payload base n i)) (byte ∷ length string ∷ []) (spansFrom (byte + length string) (left payload base n (i + 1)))
-    unfolding spansFrom
-    spans-next = record { is = rw (left-next payload base n h, string-is) }
+    spans-next = record { is = rw (left-next payload base n h, spans-cons, string-is) }
 
     pub write-fits : UnitsFit payload (base + n) unit count byte (length t)
     write-fits = record {
@@ -333,8 +332,8 @@ module _ (payload : List ℕ) (base n : ℕ) (t₀ : List ℕ) (start : ℕ) (s�
         }
 
   pub write-last : {t s : List ℕ} {byte unit i : ℕ} → Writing payload base n t₀ start s₀ index t s byte unit i → n ≤ i → WritesStrings all start index t₀ s₀ byte t s
-  unfolding flatMap spansFrom
+  unfolding flatMap
   write-last m h =
       let p = ends-from t₀ (joined all) start (f .text) (rw (left-none payload base n h) at (m .text)) in
-      let q = ends-from s₀ (spansFrom start all) (2 * index) span-room (rw (left-none payload base n h) at (m .spans)) in
+      let q = ends-from s₀ (spansFrom start all) (2 * index) span-room (rw (left-none payload base n h, spans-none) at (m .spans)) in
       record { end = p .end; text-after = p .buffer; spans-after = q .buffer }

@@ -20,6 +20,7 @@ use Rattle.text.proofs.ByteLaws.{stores}
 use Rattle.text.proofs.ResultLaws.{reply-is}
 use Rattle.text.proofs.TestLaws.{either}
 use Rattle.writer.specs.Spans.{spansFrom}
+use Rattle.writer.proofs.LayoutLaws.{spans-none, spans-cons}
 use Rattle.reader.specs.Stages.Cells.{IsDirectory, cellReplyOf, ReadsCell}
 use Rattle.reader.specs.Cells.{checkDirectory, cellAt}
 use Rattle.reader.specs.Decode.{anyName, chosenIndex, stringClass, propertyStrings, triplesStrings, objectStrings}
@@ -178,12 +179,12 @@ module _ (spans : List ℕ) where
       decode-short oneEmpty [] spans (reply.Strings 0 1) refl refl (outputs-spans 0 1 0 (length spans) (omega arith) (omega arith) (omega arith)) refl
 
   pub empty-written : 2 ≤ length spans → DecodesStrings oneEmpty [] spans (reply.Strings 0 1) [] (set (set spans 0 0) 1 0)
-  unfolding flatMap spansFrom
+  unfolding flatMap
   empty-written h =
       decode-written oneEmpty [] spans (reply.Strings 0 1) refl refl (outputs-fit 0 1 0 (length spans) (omega arith) (omega arith)) refl {next = record { byte = 0; string = 1 }}
       (record {
         strings = refl;
-        writes = record { end = refl; text-after = sym (put-front [] []); spans-after = stores (0 ∷ 0 ∷ []) spans 0 (omega arith) };
+        writes = record { end = refl; text-after = sym (put-front [] []); spans-after = rw (spans-cons, spans-none) (stores (0 ∷ 0 ∷ []) spans 0 (omega arith)) };
       })
 
 -- it needs nothing of the text

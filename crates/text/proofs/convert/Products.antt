@@ -3,7 +3,7 @@
 use Prim.Native.Nat.{ℕ, _+_, _-_, _*_, _/_, _^_, _≤_, _<_}
 use mathlib.Core.Path.{_≡_, refl, sym, _∙_}
 use mathlib.Core.Bool.{Bool, true, false, not}
-use mathlib.Core.List.{List}
+use mathlib.Core.List.{List, [], _∷_}
 use native.Mathlib.Nat.{mul-zero, le-div-iff-mul-le, div-lt-iff-lt-mul}
 use native.Mathlib.Numerals.{add-one}
 use native.Mathlib.Omega.{arith}
@@ -73,6 +73,11 @@ module _ (dims : List ℕ) where
 pub ruleset multiplies = (multiply-start, product-below, multiply-turn, multiply-stop, multiply-last)
 
 -- ---- what callers know of a product
+
+-- the dimensions of a scalar
+pub product-scalar : productOf (1 ∷ 1 ∷ []) ≡ Of 1
+unfolding productOf productFrom
+product-scalar = refl
 
 -- the n dimensions from index a on, which the code cuts out by their end
 pub product-is : {x y : Product} (a n : ℕ) (w : List ℕ) → x ≡ productOf (take (a + n - a) (drop a w)) → x ≡ y → productOf (take n (drop a w)) ≡ y

@@ -4,12 +4,13 @@ use Prim.Native.Nat.{ℕ, zero, suc, _+_, _-_, _*_, _/_, _%_, _^_, _≤_, _<_}
 use mathlib.Core.Path.{_≡_, refl, sym, ap, _∙_}
 use mathlib.Core.Bool.{Bool, true, false, not}
 use mathlib.Core.List.{List, flatMap}
+use native.Mathlib.Numerals.{add-one}
 use native.Mathlib.Omega.{arith}
 use borrow.Author.Tests.{le-leb, lt-leb, eq-eqb, ne-eqb, not-true, not-false}
 use lib.Dec.{leb}
 use lib.ListN.{length}
-use Rattle.text.specs.Result.{Result, ok, error, mapResult, check, foldCount, foldRange, _>>_, _>>=_}
-use Rattle.text.proofs.ResultLaws.{reply-is, seq-passed, bind-passed, foldRange-done, foldRange-yes, foldRange-no}
+use Rattle.text.specs.Result.{Result, ok, error, mapResult, check, foldRange, _>>_, _>>=_}
+use Rattle.text.proofs.ResultLaws.{reply-is, seq-passed, foldRange-done, foldRange-yes, foldRange-no, foldRange-passed}
 use Rattle.writer.specs.Array.{stringUnits, allUnits, payload, isShape, checkShape, arrayOf}
 use Rattle.writer.specs.Spans.{stringAt, stringsFrom, stringsIn, checkString, checkStrings}
 use Rattle.writer.specs.Stages.Payload.{stringEnd, MeasuresString, measuredStrings, textMeasureOf, arrayIn}
@@ -85,21 +86,19 @@ module _ (text spans : List ℕ) (n : ℕ) where
       sym (rw (foldRange-done (checkString text spans) i n end h, z) at (m .whole) ∙ ap ok k)
 
 -- the units of all strings are at most the text's bytes
-units-from : (text spans : List ℕ) (k i end : ℕ) {last : ℕ} → foldCount (checkString text spans) i k end ≡ ok last → end ≤ length text
+units-from : (text spans : List ℕ) (k i n end : ℕ) {last : ℕ} → i + k ≡ n → foldRange (checkString text spans) i n end ≡ ok last → end ≤ length text
     → end + length (allUnits (stringsFrom text spans i k)) ≤ length text
-unfolding foldCount stringsFrom flatMap
-units-from text spans zero i end e h = omega arith
-units-from text spans (suc k) i end e h =
-    let p = bind-passed (checkString text spans i end) (foldCount (checkString text spans) (suc i) k) e in
+unfolding stringsFrom flatMap
+units-from text spans zero i n end c e h = omega arith
+units-from text spans (suc k) i n end c e h =
+    let p = foldRange-passed (checkString text spans) i n end (omega arith) e in
     let s = string-passed text spans i end (p .1 .0) in
     let u = units-most s in
-    omega (arith, units-from text spans k (suc i) (p .0) (p .1 .1) (omega arith), units-cons (stringAt text spans i) (stringsFrom text spans (suc i) k))
+    let rest = units-from text spans k (suc i) n (p .0) (omega arith) (rw (add-one i) at (p .1 .1)) (omega arith) in
+    omega (arith, rest, units-cons (stringAt text spans i) (stringsFrom text spans (suc i) k))
 
 units-all : (text spans : List ℕ) (n : ℕ) {last : ℕ} → foldRange (checkString text spans) 0 n 0 ≡ ok last → length (allUnits (stringsFrom text spans 0 n)) ≤ length text
-unfolding foldRange
-units-all text spans n e =
-    let z : n - 0 ≡ n = omega arith in
-    omega (arith, units-from text spans n 0 0 (rw z at e) (omega arith))
+units-all text spans n e = omega (arith, units-from text spans n 0 n 0 (omega arith) e (omega arith))
 
 -- so that three more fit 64 bits
 pub units-fit : (text spans : List ℕ) (n : ℕ) {x : TextMeasure} {u : ℕ} → length text * 1 < 2 ^ 63 → textMeasureOf x ≡ measuredStrings text spans n → x ≡ strings.Units u
