@@ -149,15 +149,6 @@ module _ (b : List ℕ) (w : FileWrapper) (c : ℕ) where
 -- ---- the text of a class
 
 module _ {b : List ℕ} {w : FileWrapper} (o : Opens b w) where
-  entry-piece : {end index : ℕ} {p : Piece} → IsName b end index p → InBlob b p
-  entry-piece n = record { order = n .order; inside = n .inside; most = o .most }
-
-  pub entry-one : {end index : ℕ} {p : Piece} → IsName b end index p → InBlob b p
-  entry-one n = entry-piece n
-
-  pub entry-both : {end i j : ℕ} {p q : Piece} → IsName b end i p → IsName b end j q → BothInBlob b q p
-  entry-both n m = record { first = entry-piece m; second = entry-piece n }
-
   module _ (e : ClassEntry) {y : Checked} (d : checkedOf y ≡ checkNames w e) where
     pub entry-refused : (text : List ℕ) {f : MatError} → y ≡ checked.Failed f → WritesText (entryText b w e) text (name.Error f) text
     unfolding entryText

@@ -133,12 +133,6 @@ module _ {b : List ℕ} {o : Offsets} (w : Ordered b o) where
   pub heap-inside : (40 ≤ o .o0) × (o .o0 ≤ length b)
   heap-inside = (w .heap, omega (arith, w))
 
-  pub saveobj-region : IsRegion b (o .o1) (o .o2) 12
-  saveobj-region = record { order = w .saveobj; inside = omega (arith, w); most = w .most; small = omega arith }
-
-  pub normalobj-region : IsRegion b (o .o3) (o .o4) 12
-  normalobj-region = record { order = w .normalobj; inside = w .inside; most = w .most; small = omega arith }
-
   module _ {n p : ℕ} (names : n ≡ declaredNames b) (cut : p ≡ length (pieces (slice 40 (o .o0) b))) where
     pieces-are : p ≡ pieceCount b
     pieces-are = cut ∙ ap (λ (k : ℕ). length (pieces (slice 40 k b))) (at (λ (x : Offsets). x .o0))
