@@ -49,25 +49,25 @@ end-by true false v n e = let z : _≡_ {A = ℕ} 0 1 = cc in absurd (omega arit
 end-by false w v n e = refl
 
 -- a step that found something goes on, within s
-pub record Advances (s : List ℕ) (i next : ℕ) : Type 0 where
+pub record StepsTo (s : List ℕ) (i next : ℕ) : Type 0 where
   pub here : i < length s
   pub on : i < next
   pub inside : next ≤ length s
   pub next-is : next ≡ nextAt s i
 
-advances : (s : List ℕ) (i next : ℕ) → i < length s → next ≡ nextAt s i → Advances s i next
+steps-to : (s : List ℕ) (i next : ℕ) → i < length s → next ≡ nextAt s i → StepsTo s i next
 unfolding nextAt
-advances s i next h e = record { here = h; on = omega (arith, e); inside = rw e (next-within s i h); next-is = e }
+steps-to s i next h e = record { here = h; on = omega (arith, e); inside = rw e (next-within s i h); next-is = e }
 
 -- a step that found the scalar value v
 pub record Reads (s : List ℕ) (i v next : ℕ) : Type 0 where
-  pub advance : Advances s i next
+  pub advance : StepsTo s i next
   pub whole : wholeAt s i ≡ true
   pub value : v ≡ valueAt s i (matched s i)
 
 -- a step that found an ill-formed part
 pub record Breaks (s : List ℕ) (i next : ℕ) : Type 0 where
-  pub advance : Advances s i next
+  pub advance : StepsTo s i next
   pub not-whole : wholeAt s i ≡ false
 
 module _ (s : List ℕ) (i : ℕ) where
@@ -75,13 +75,13 @@ module _ (s : List ℕ) (i : ℕ) where
   unfolding stepAt
   step-reads {v} {next} e =
       let f = scalar-by (ltb i (length s)) (wholeAt s i) (valueAt s i (matched s i)) (nextAt s i) v next e in
-      record { advance = advances s i next (ltb-true _ _ (f .0)) (f .3); whole = f .1; value = f .2 }
+      record { advance = steps-to s i next (ltb-true _ _ (f .0)) (f .3); whole = f .1; value = f .2 }
 
   pub step-breaks : {next : ℕ} → stepAt s i ≡ IllFormed next → Breaks s i next
   unfolding stepAt
   step-breaks {next} e =
       let f = ill-formed-by (ltb i (length s)) (wholeAt s i) (valueAt s i (matched s i)) (nextAt s i) next e in
-      record { advance = advances s i next (ltb-true _ _ (f .0)) (f .2); not-whole = f .1 }
+      record { advance = steps-to s i next (ltb-true _ _ (f .0)) (f .2); not-whole = f .1 }
 
   pub step-end : stepAt s i ≡ End → length s ≤ i
   unfolding stepAt
@@ -98,7 +98,7 @@ unfolding partsCount
 count-end zero s i h = refl
 count-end (suc k) s i h = rw (end-step s i h)
 
-same-by : (s : List ℕ) (i : ℕ) (f g : ℕ → List Part) → ((n : ℕ) → Advances s i n → f n ≡ g n)
+same-by : (s : List ℕ) (i : ℕ) (f g : ℕ → List Part) → ((n : ℕ) → StepsTo s i n → f n ≡ g n)
     → (t : Step) → stepAt s i ≡ t → before (stepAt s i) i f ≡ before (stepAt s i) i g
 same-by s i f g h (Scalar v n) e = rw e (ap (λ (ps : List Part). sequence v ∷ ps) (h n (step-reads s i e .advance)))
 same-by s i f g h (IllFormed n) e = rw e (ap (λ (ps : List Part). illFormed i ∷ ps) (h n (step-breaks s i e .advance)))
@@ -117,7 +117,7 @@ module _ (s : List ℕ) (i : ℕ) where
   unfolding partsFrom
   parts-end h = count-end (length s - i) s i h
 
-  rest-same : {next : ℕ} → Advances s i next → partsCount (length s - suc i) s next ≡ partsFrom s next
+  rest-same : {next : ℕ} → StepsTo s i next → partsCount (length s - suc i) s next ≡ partsFrom s next
   unfolding partsFrom
   rest-same {next} a = same (length s - suc i) (length s - next) s next (omega (arith, a)) (omega (arith, a))
 
@@ -153,7 +153,7 @@ module _ (s : List ℕ) (i : ℕ) where
 module _ (s : List ℕ) (P : ℕ → List Part → Type 0) (end : (i : ℕ) → length s ≤ i → P i [])
     (scalar : (i v n : ℕ) → stepAt s i ≡ Scalar v n → P n (partsFrom s n) → P i (sequence v ∷ partsFrom s n))
     (ill-formed : (i n : ℕ) → stepAt s i ≡ IllFormed n → P n (partsFrom s n) → P i (illFormed i ∷ partsFrom s n)) where
-  rule-by : (i : ℕ) → ((n : ℕ) → Advances s i n → P n (partsFrom s n)) → (t : Step) → stepAt s i ≡ t → P i (partsFrom s i)
+  rule-by : (i : ℕ) → ((n : ℕ) → StepsTo s i n → P n (partsFrom s n)) → (t : Step) → stepAt s i ≡ t → P i (partsFrom s i)
   rule-by i f (Scalar v n) e = rw (parts-scalar s i e) (scalar i v n e (f n (step-reads s i e .advance)))
   rule-by i f (IllFormed n) e = rw (parts-ill-formed s i e) (ill-formed i n e (f n (step-breaks s i e .advance)))
   rule-by i f End e = rw (parts-end s i (step-end s i e)) (end i (step-end s i e))
@@ -171,7 +171,7 @@ unfoldable pub left : List ℕ → ℕ → ℕ
 left s i = length s - i
 
 module _ (s : List ℕ) (i : ℕ) {x : Step} (e : x ≡ stepAt s i) where
-  pub scalar-on : {v next : ℕ} → x ≡ Scalar v next → Advances s i next
+  pub scalar-on : {v next : ℕ} → x ≡ Scalar v next → StepsTo s i next
   scalar-on g = step-reads s i (sym e ∙ g) .advance
 
   pub scalar-less : {v next : ℕ} → x ≡ Scalar v next → left s next < left s i

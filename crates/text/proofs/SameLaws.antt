@@ -79,15 +79,15 @@ module _ (t : List ℕ) (o w : ℕ) {x : Step} (e : x ≡ stepAt t o) where
   has-not-end g = rw (sym e ∙ g)
 
 -- the bytes of w stand at o
-record Stands (t : List ℕ) (o w : ℕ) : Type 0 where
+record HasScalarAt (t : List ℕ) (o w : ℕ) : Type 0 where
   pub inside : o + length (utf8 w) ≤ length t
   pub rest : drop o t ≡ utf8 w ++ drop (o + length (utf8 w)) t
 
-stands : (t : List ℕ) (o w : ℕ) → stepHas (stepAt t o) w ≡ true → Stands t o w
+has-scalar-at : (t : List ℕ) (o w : ℕ) → stepHas (stepAt t o) w ≡ true → HasScalarAt t o w
 unfolding stepHas
-stands t o w h = by (stepAt t o) refl h
+has-scalar-at t o w h = by (stepAt t o) refl h
   where
-    by : (x : Step) → stepAt t o ≡ x → stepHas x w ≡ true → Stands t o w
+    by : (x : Step) → stepAt t o ≡ x → stepHas x w ≡ true → HasScalarAt t o w
     by (Scalar v n) g k =
         let r = step-reads t o (rw (eqb-true v w k) at g) in
         let z = took-size r in
@@ -120,7 +120,7 @@ module _ (s t : List ℕ) where
 
     turn : {next w k n : ℕ} → Writes s i next w k → n ≡ length (utf8 w) → stepHas (stepAt t o) w ≡ true → Matching s t next (o + n)
     turn {next} {w} x l h =
-        let a = stands t o w h in
+        let a = has-scalar-at t o w h in
         record { bound = omega (arith, a .inside); rest = rw l (split x ∙ rw (a .rest) (same-after (utf8 w) _ _)) }
 
     stop : {next w k : ℕ} → Writes s i next w k → stepHas (stepAt t o) w ≡ false → false ≡ same (lossy s) t

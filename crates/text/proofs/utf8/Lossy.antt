@@ -27,13 +27,13 @@ use Rattle.text.specs.Utf8.{Part, sequence, illFormed, stepAt, partsFrom
 use Rattle.text.proofs.BufferLaws.{SoFar, Splits, put-front, fits-next, goes-on, placed-not, placed-whole, places-front, fits-from, begins-from, ends-from}
 use Rattle.text.proofs.utf8.Count.{valid-units, valid-place}
 use Rattle.text.proofs.LeadLaws.{ascii}
-use Rattle.text.proofs.PartLaws.{Advances, step-reads, step-breaks, step-end, parts-end, parts-scalar, parts-ill-formed, parts-rule}
+use Rattle.text.proofs.PartLaws.{StepsTo, step-reads, step-breaks, step-end, parts-end, parts-scalar, parts-ill-formed, parts-rule}
 use Rattle.text.proofs.ScalarLaws.{scalar-is, is-scalar, utf8s-cons}
 use Rattle.text.proofs.Utf8Laws.{step-took, took-size, not-some, spelled, lossy-le}
 
 -- what a step writes: the scalar value w, with k replaced parts
 pub record Writes (s : List ℕ) (i next w k : ℕ) : Type 0 where
-  pub advance : Advances s i next
+  pub advance : StepsTo s i next
   pub scalar : isScalar w ≡ true
   pub parts : repaired (partsFrom s i) ≡ w ∷ repaired (partsFrom s next)
   pub count : replacedIn (partsFrom s i) ≡ k + replacedIn (partsFrom s next)
