@@ -4,6 +4,7 @@ mod print;
 
 use reader::file_wrapper::FileWrapper;
 use reader::file_wrapper::ParseReply;
+use reader::names::NameReply;
 use text::reply::LengthReply;
 use text::utf8::LossyReply;
 use text::utf8::Validity;
@@ -13,6 +14,7 @@ fn main() {
     of_utf16();
     of_writer();
     of_reader();
+    of_names();
 }
 
 fn of_utf8() {
@@ -87,6 +89,20 @@ fn of_reader() {
     );
 }
 
+// A blob with names alone: a sound one, one cut off, one of two ill-formed parts, a genuine U+FFFD, and that before an ill-formed part.
+const NAMES: [u8; 59] =
+    *b"\x04\0\0\0\x05\0\0\0\x3B\0\0\0\x3B\0\0\0\x3B\0\0\0\x3B\0\0\0\x3B\0\0\0\x3B\0\0\0\x3B\0\0\0\x3B\0\0\0ok\0\xF4\x80\x80\0\xE0\x80\0\xEF\xBF\xBD\0\xEF\xBF\xBD\xFF\0";
+
+fn of_names() {
+    resolve(b"the empty name", 0);
+    resolve(b"a sound name", 1);
+    resolve(b"F4 80 80", 2);
+    resolve(b"E0 80", 3);
+    resolve(b"EF BF BD", 4);
+    resolve(b"EF BF BD FF", 5);
+    resolve(b"no name", 6);
+}
+
 // A text: its repaired text and how many parts of it were replaced, and the position of the first ill-formed part.
 fn show(label: &[u8], bytes: &[u8]) {
     print::label(label);
@@ -158,6 +174,23 @@ fn open(label: &[u8], blob: &[u8]) {
             io::print_decimal(1, w.names as u64);
         }
         ParseReply::Error(e) => {
+            print::refusal(e);
+        }
+    }
+    io::write_all(1, b"\n");
+}
+
+// A name of the blob: its text and the replacement characters that were put into it, or the refusal.
+fn resolve(label: &[u8], index: u32) {
+    print::label(label);
+    let mut out = [0u8; 64];
+    match reader::names::name(&NAMES, index, &mut out) {
+        NameReply::Text { bytes, replaced } => {
+            print::bytes(&out, bytes);
+            io::write_all(1, b", replaced ");
+            io::print_decimal(1, replaced as u64);
+        }
+        NameReply::Error(e) => {
             print::refusal(e);
         }
     }

@@ -18,14 +18,15 @@ use Rattle.text.specs.declared.utf8.LossyReply.the-variants as lossyReply
 use Rattle.text.proofs.ResultLaws.{reply-is}
 use Rattle.writer.specs.Array.{Array}
 use Rattle.writer.specs.Spans.{joined, spansFrom}
-use Rattle.reader.specs.Replies.{findReplyOf, DecodedSize, sizeOf}
+use Rattle.reader.specs.Names.{ShownText}
+use Rattle.reader.specs.Replies.{findReplyOf, DecodedSize, sizeOf, TextSize, textSizeOf}
 use Rattle.reader.specs.declared.find.FindReply.{FindReply}
 use Rattle.reader.specs.declared.find.FindReply.the-variants as find
 use Rattle.store.specs.Replies.{editReplyOf, Edits}
 use Rattle.store.specs.Store.{Store}
 use Rattle.store.specs.declared.edits.EditReply.the-variants as edit
 use Rattle.store.specs.declared.edits.Edited.{Edited}
-use Rattle.mcos.specs.Exports.{editCells, foundOf, storeIn, Exports, ExportsEdit, ExportsFound, ExportsList, ExportsLossy, ExportsStrings}
+use Rattle.mcos.specs.Exports.{editCells, foundOf, storeIn, Exports, ExportsEdit, ExportsFound, ExportsList, ExportsLossy, ExportsStrings, ExportsText}
 
 -- the outcomes of a call whose reply x is y, and comes to m as f reads it
 module _ {A B X : Type 0} (h : A → B) (f : X → Result A) {x y : X} {m : Result A} {v : B} {place : ℕ} (g : x ≡ y) where
@@ -54,6 +55,11 @@ told-same s e = rw e at s
 pub told-list : {A B : Type 0} {f : List A → List B} {m : ℕ → Result (List A)} {out out' : List B} {x : Result ℕ} {v place r v' place' : ℕ}
     → Exports (λ n. n) x v place r v' place' → x ≡ mapResult length (m (length out)) → out' ≡ overwritten f (m (length out)) out → ExportsList f m out v place r out' v' place'
 told-list {m = m} {out = out} s e b = record { exports = told (m (length out)) e s; buffer = b }
+
+pub told-text : {m : ℕ → Result ShownText} {out out' : List ℕ} {x : Result TextSize} {v v' : TextSize} {place r place' : ℕ}
+    → Exports (λ n. n) x v place r v' place' → x ≡ mapResult textSizeOf (m (length out)) → out' ≡ overwritten (λ t. t .text) (m (length out)) out
+    → ExportsText m out v place r out' v' place'
+told-text {m = m} {out = out} s e b = record { exports = told (m (length out)) e s; buffer = b }
 
 pub told-strings : {m : ℕ → ℕ → Result (List (List ℕ))} {text spans text' spans' : List ℕ} {x : Result DecodedSize} {v v' : DecodedSize} {place r place' : ℕ}
     → Exports (λ n. n) x v place r v' place' → x ≡ mapResult sizeOf (m (length text) (length spans)) → text' ≡ overwritten joined (m (length text) (length spans)) text → spans' ≡ overwritten (spansFrom 0) (m (length text) (length spans)) spans
@@ -86,10 +92,10 @@ module _ (s out out' : List ℕ) (bytes replaced place : ℕ) where
       at : (t : Bool) → leb (length (lossy s)) (length out) ≡ t → Outcome x
       at true h =
           subst Outcome (sym (rw h at (w .reply)))
-          (record { text = record { exports = record { number = simp h; value-after = simp h; place-after = simp h }; buffer = simp (h, w .buffer) }; replaced-after = simp h })
+          (record { exports = record { number = simp h; value-after = simp h; place-after = simp h }; buffer = simp (h, w .buffer) })
       at false h =
           subst Outcome (sym (rw h at (w .reply)))
-          (record { text = record { exports = record { number = simp h; value-after = simp h; place-after = simp h }; buffer = simp (h, w .buffer) }; replaced-after = simp h })
+          (record { exports = record { number = simp h; value-after = simp h; place-after = simp h }; buffer = simp (h, w .buffer) })
 
 module _ {s out out' : List ℕ} {bytes replaced place : ℕ} {x : LossyReply} where
   pub lossy-written : {b n : ℕ} → x ≡ lossyReply.Written b n → WritesLossy s out x out' → ExportsLossy s out bytes replaced place 0 out' b n place

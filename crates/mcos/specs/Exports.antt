@@ -6,11 +6,11 @@ use mathlib.Core.List.{List, [], _∷_}
 use mathlib.Core.Option.{Option, some, none, Option·getD}
 use lib.ListN.{length, getD}
 use Rattle.text.specs.Result.{Result, ok, error, overwritten}
-use Rattle.text.specs.Utf8.{partsFrom, replacedIn, lossy}
 use Rattle.writer.specs.Array.{Array}
 use Rattle.writer.specs.Spans.{joined, spansFrom}
-use Rattle.reader.specs.Queries.{intoOutput}
-use Rattle.reader.specs.Replies.{DecodedSize, sizeOf}
+use Rattle.reader.specs.Names.{ShownText, shownBytes}
+use Rattle.reader.specs.Queries.{intoText}
+use Rattle.reader.specs.Replies.{DecodedSize, sizeOf, TextSize, textSizeOf}
 use Rattle.reader.specs.declared.file_wrapper.FileWrapper.{FileWrapper}
 use Rattle.reader.specs.declared.labels.Part.{Part}
 use Rattle.reader.specs.declared.labels.Source.{Source}
@@ -46,10 +46,19 @@ pub record ExportsList {A B : Type 0} (f : List A → List B) (m : ℕ → Resul
   pub exports : Exports length (m (length out)) count place r count' place'
   pub buffer : out' ≡ overwritten f (m (length out)) out
 
+-- the cells of a text's bytes and of the replacement characters in it, together
+abbrev pub textCells : ℕ → ℕ → TextSize
+textCells bytes replaced = record { bytes = bytes; replaced = replaced }
+
+-- a text as it is shown, with its cells; the call comes to m of the buffer's length
+pub record ExportsText (m : ℕ → Result ShownText) (out : List ℕ) (cells : TextSize) (place r : ℕ) (out' : List ℕ) (cells' : TextSize) (place' : ℕ) : Type 0 where
+  pub exports : Exports textSizeOf (m (length out)) cells place r cells' place'
+  pub buffer : out' ≡ overwritten (λ t. t .text) (m (length out)) out
+
 -- the repaired text of s, with the number of replaced parts
-pub record ExportsLossy (s out : List ℕ) (bytes replaced place r : ℕ) (out' : List ℕ) (bytes' replaced' place' : ℕ) : Type 0 where
-  pub text : ExportsList (λ t. t) (intoOutput (ok (lossy s))) out bytes place r out' bytes' place'
-  pub replaced-after : replaced' ≡ valueAfter (λ _. replacedIn (partsFrom s 0)) (intoOutput (ok (lossy s)) (length out)) replaced
+abbrev pub ExportsLossy : List ℕ → List ℕ → ℕ → ℕ → ℕ → ℕ → List ℕ → ℕ → ℕ → ℕ → Type 0
+ExportsLossy s out bytes replaced place r out' bytes' replaced' place' =
+    ExportsText (intoText (ok (shownBytes s))) out (textCells bytes replaced) place r out' (textCells bytes' replaced') place'
 
 -- the cells of text bytes and number of strings, together
 abbrev pub countCells : ℕ → ℕ → DecodedSize

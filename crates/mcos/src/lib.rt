@@ -33,7 +33,6 @@ use text::utf8::LossyReply;
 use text::utf16;
 use writer::string_object;
 ghost use mathlib.Core.Path.{_≡_};
-ghost use mathlib.Core.List.{map};
 ghost use Rattle.text.specs.Errors.{failureOf};
 ghost use Rattle.text.specs.Latin9.{exportLatin9, importLatin9};
 ghost use Rattle.text.specs.Replies.{lengthReplyOf};
@@ -44,15 +43,15 @@ ghost use Rattle.writer.specs.Metadata.{objectMetadata};
 ghost use Rattle.writer.specs.Replies.{measuredPayload};
 ghost use Rattle.reader.specs.Decode.{metadataStrings, objectStrings};
 ghost use Rattle.reader.specs.Labels.{labelOf};
-ghost use Rattle.reader.specs.Objects.{findProperty, objectRows, objectTriples, rowOf};
+ghost use Rattle.reader.specs.Objects.{findProperty, objectRows, objectProperties};
 ghost use Rattle.reader.specs.Opaque.{opaqueMetadata};
 ghost use Rattle.reader.specs.Opening.{opened};
-ghost use Rattle.reader.specs.Queries.{intoOutput, nameText, classText, objectClassText};
+ghost use Rattle.reader.specs.Queries.{intoOutput, intoText, nameText, classText, objectClassText};
 ghost use Rattle.reader.specs.Replies.{nameReplyOf, stringsReplyOf};
 ghost use Rattle.reader.specs.Saveobj.{decodePayload, intoStrings};
 ghost use Rattle.store.specs.Edits.{appended, replaced};
 ghost use Rattle.store.specs.Replies.{editReplyOf};
-ghost use Rattle.mcos.specs.Exports.{countCells, editCells, layoutOf, opaqueCells, partCells, sourceCell, storeIn, Exports, ExportsEdit, ExportsFound, ExportsList, ExportsLossy, ExportsStrings};
+ghost use Rattle.mcos.specs.Exports.{countCells, editCells, layoutOf, opaqueCells, partCells, sourceCell, storeIn, textCells, Exports, ExportsEdit, ExportsFound, ExportsList, ExportsLossy, ExportsStrings, ExportsText};
 
 // Writes the place of a failure and gives its number.
 fn put_error(e: MatError, place: &mut u64) -> u32
@@ -79,14 +78,18 @@ fn put_length(reply: LengthReply, length: &mut u64, place: &mut u64) -> u32
     }
 }
 
-fn put_name(reply: NameReply, bytes: &mut u64, place: &mut u64) -> u32
+fn put_name(reply: NameReply, bytes: &mut u64, replaced: &mut u64, place: &mut u64) -> u32
     ensures { λ r. ⌜ (
-        Exports (λ x. x) (nameReplyOf reply) (now (bytes .entry)) (now (place .entry))
-        r (now (bytes .exit)) (now (place .exit))) ⌝ }
+        Exports (λ x. x) (nameReplyOf reply) (textCells (now (bytes .entry)) (now (replaced .entry))) (now (place .entry))
+        r (textCells (now (bytes .exit)) (now (replaced .exit))) (now (place .exit))) ⌝ }
 {
     match reply {
-        NameReply::Text(n) => {
-            *bytes = n as u64;
+        NameReply::Text {
+            bytes: b,
+            replaced: n,
+        } => {
+            *bytes = b as u64;
+            *replaced = n as u64;
             0
         }
         NameReply::Error(e) => put_error(e, place),
@@ -306,14 +309,16 @@ pub extern "C" fn mcos_name(
     index: u32,
     text: &mut [u8],
     bytes: &mut u64,
+    replaced: &mut u64,
     place: &mut u64,
 ) -> u32
     ensures { λ r. ⌜ (
-        ExportsList (λ x. x) (intoOutput (nameText (now (blob .entry)) index))
-        (now (text .entry)) (now (bytes .entry)) (now (place .entry))
-        r (now (text .exit)) (now (bytes .exit)) (now (place .exit))) ⌝ }
+        let m = intoText (nameText (now (blob .entry)) index) in
+        let cells = textCells (now (bytes .entry)) (now (replaced .entry)) in
+        let cells' = textCells (now (bytes .exit)) (now (replaced .exit)) in
+        ExportsText m (now (text .entry)) cells (now (place .entry)) r (now (text .exit)) cells' (now (place .exit))) ⌝ }
 {
-    put_name(names::name(blob, index, text), bytes, place)
+    put_name(names::name(blob, index, text), bytes, replaced, place)
 }
 
 // The cell of a part's buffer.
@@ -360,14 +365,21 @@ pub extern "C" fn mcos_class_name(
     class_id: u32,
     text: &mut [u8],
     bytes: &mut u64,
+    replaced: &mut u64,
     place: &mut u64,
 ) -> u32
     ensures { λ r. ⌜ (
-        ExportsList (λ x. x) (intoOutput (classText (now (blob .entry)) «class_id»))
-        (now (text .entry)) (now (bytes .entry)) (now (place .entry))
-        r (now (text .exit)) (now (bytes .exit)) (now (place .exit))) ⌝ }
+        let m = intoText (classText (now (blob .entry)) «class_id») in
+        let cells = textCells (now (bytes .entry)) (now (replaced .entry)) in
+        let cells' = textCells (now (bytes .exit)) (now (replaced .exit)) in
+        ExportsText m (now (text .entry)) cells (now (place .entry)) r (now (text .exit)) cells' (now (place .exit))) ⌝ }
 {
-    put_name(classes::class_name(blob, class_id, text), bytes, place)
+    put_name(
+        classes::class_name(blob, class_id, text),
+        bytes,
+        replaced,
+        place,
+    )
 }
 
 #[no_mangle]
@@ -376,16 +388,19 @@ pub extern "C" fn mcos_object_class_name(
     object_id: u32,
     text: &mut [u8],
     bytes: &mut u64,
+    replaced: &mut u64,
     place: &mut u64,
 ) -> u32
     ensures { λ r. ⌜ (
-        let outcome = intoOutput (objectClassText (now (blob .entry)) «object_id») in
-        ExportsList (λ x. x) outcome (now (text .entry)) (now (bytes .entry)) (now (place .entry))
-        r (now (text .exit)) (now (bytes .exit)) (now (place .exit))) ⌝ }
+        let m = intoText (objectClassText (now (blob .entry)) «object_id») in
+        let cells = textCells (now (bytes .entry)) (now (replaced .entry)) in
+        let cells' = textCells (now (bytes .exit)) (now (replaced .exit)) in
+        ExportsText m (now (text .entry)) cells (now (place .entry)) r (now (text .exit)) cells' (now (place .exit))) ⌝ }
 {
     put_name(
         classes::object_class_name(blob, object_id, text),
         bytes,
+        replaced,
         place,
     )
 }
@@ -399,8 +414,8 @@ pub extern "C" fn mcos_properties(
     place: &mut u64,
 ) -> u32
     ensures { λ r. ⌜ (
-        let m = intoOutput (objectTriples (now (blob .entry)) «object_id») in
-        ExportsList (map rowOf) m (now (rows .entry)) (now (count .entry)) (now (place .entry)) r
+        let m = intoOutput (objectProperties (now (blob .entry)) «object_id») in
+        ExportsList (λ x. x) m (now (rows .entry)) (now (count .entry)) (now (place .entry)) r
         (now (rows .exit)) (now (count .exit)) (now (place .exit))) ⌝ }
 {
     put_length(properties::properties(blob, object_id, rows), count, place)

@@ -14,6 +14,7 @@ use reader::file_wrapper::FileWrapper;
 use reader::file_wrapper::ParseReply;
 use reader::names::NameReply;
 use reader::names::name;
+use reader::properties::ROW_WIDTH;
 use reader::properties::properties;
 use text::error::MatError;
 use text::reply::LengthReply;
@@ -25,10 +26,10 @@ ghost use Rattle.printing.specs.Output.{Ready};
 // The property rows that are lent: one for each 12 bytes of a blob of 65,536.
 const ROWS: usize = 5461;
 
-fn rows_buffer() -> [[u32; 3]; ROWS]
+fn rows_buffer() -> [[u32; ROW_WIDTH]; ROWS]
     ensures { λ r. ⌜ 5461 ≡ length r ⌝ }
 {
-    [[0; 3]; ROWS]
+    [[0; ROW_WIDTH]; ROWS]
 }
 
 fn put_refusal(o: Output, error: MatError, out: &mut [u8]) -> Output
@@ -39,7 +40,7 @@ fn put_refusal(o: Output, error: MatError, out: &mut [u8]) -> Output
 }
 
 // The value of a property that is a number.
-fn number_part(row: [u32; 3]) -> LinePart {
+fn number_part(row: [u32; ROW_WIDTH]) -> LinePart {
     if row[1] == 1 {
         return LinePart::Heap(row[2]);
     }
@@ -47,13 +48,19 @@ fn number_part(row: [u32; 3]) -> LinePart {
 }
 
 // The rest of a line whose value is a number, or that its name does not fit text.
-fn list_number(o: Output, blob: &[u8], row: [u32; 3], text: &mut [u8], out: &mut [u8]) -> Output
+fn list_number(
+    o: Output,
+    blob: &[u8],
+    row: [u32; ROW_WIDTH],
+    text: &mut [u8],
+    out: &mut [u8],
+) -> Output
     requires { ⌜ Ready o (now out) ⌝ }
     ensures { λ r. ⌜ Ready r (now (out .exit)) ⌝ }
 {
     match name(blob, row[0], text) {
-        NameReply::Text(n) => {
-            let named = put_name(o, &text[0..n], out);
+        NameReply::Text { bytes, replaced: _ } => {
+            let named = put_name(o, &text[0..bytes], out);
             put_part(named, number_part(row), out)
         }
         NameReply::Error(e) => put_refusal(o, e, out),
@@ -64,7 +71,7 @@ fn list_number(o: Output, blob: &[u8], row: [u32; 3], text: &mut [u8], out: &mut
 fn list_named(
     o: Output,
     blob: &[u8],
-    row: [u32; 3],
+    row: [u32; ROW_WIDTH],
     value: &[u8],
     text: &mut [u8],
     out: &mut [u8],
@@ -73,8 +80,8 @@ fn list_named(
     ensures { λ r. ⌜ Ready r (now (out .exit)) ⌝ }
 {
     match name(blob, row[0], text) {
-        NameReply::Text(n) => {
-            let named = put_name(o, &text[0..n], out);
+        NameReply::Text { bytes, replaced: _ } => {
+            let named = put_name(o, &text[0..bytes], out);
             let word = put_part(named, LinePart::Name, out);
             let shown = put_name(word, value, out);
             put_part(shown, LinePart::End, out)
@@ -87,7 +94,7 @@ fn list_named(
 fn list_property(
     o: Output,
     blob: &[u8],
-    row: [u32; 3],
+    row: [u32; ROW_WIDTH],
     text: &mut [u8],
     value: &mut [u8],
     out: &mut [u8],
@@ -100,7 +107,9 @@ fn list_property(
         return list_number(start, blob, row, text, out);
     }
     match name(blob, row[2], value) {
-        NameReply::Text(n) => list_named(start, blob, row, &value[0..n], text, out),
+        NameReply::Text { bytes, replaced: _ } => {
+            list_named(start, blob, row, &value[0..bytes], text, out)
+        }
         NameReply::Error(e) => put_refusal(start, e, out),
     }
 }
@@ -108,7 +117,7 @@ fn list_property(
 fn list_rows(
     o: Output,
     blob: &[u8],
-    rows: &[[u32; 3]],
+    rows: &[[u32; ROW_WIDTH]],
     text: &mut [u8],
     value: &mut [u8],
     out: &mut [u8],
@@ -134,7 +143,7 @@ fn list_properties(
     object_id: u32,
     text: &mut [u8],
     value: &mut [u8],
-    rows: &mut [[u32; 3]],
+    rows: &mut [[u32; ROW_WIDTH]],
     out: &mut [u8],
 ) -> Output
     requires { ⌜ Ready o (now out) ⌝ }
@@ -164,7 +173,7 @@ fn list_object(
     object_id: u32,
     text: &mut [u8],
     value: &mut [u8],
-    rows: &mut [[u32; 3]],
+    rows: &mut [[u32; ROW_WIDTH]],
     out: &mut [u8],
 ) -> Output
     requires { ⌜ Ready o (now out) ⌝ }
@@ -172,8 +181,8 @@ fn list_object(
 {
     let start = put_part(o, LinePart::Object(object_id), out);
     match object_class_name(blob, object_id, text) {
-        NameReply::Text(n) => {
-            let class = list_class(start, &text[0..n], out);
+        NameReply::Text { bytes, replaced: _ } => {
+            let class = list_class(start, &text[0..bytes], out);
             list_properties(class, blob, object_id, text, value, rows, out)
         }
         NameReply::Error(e) => put_refusal(start, e, out),
@@ -188,7 +197,7 @@ fn list_objects(o: Output, blob: &[u8], records: usize, out: &mut [u8]) -> Outpu
 {
     let text: &mut [u8] = &mut io::large_buffer();
     let value: &mut [u8] = &mut io::large_buffer();
-    let rows: &mut [[u32; 3]] = &mut rows_buffer();
+    let rows: &mut [[u32; ROW_WIDTH]] = &mut rows_buffer();
     let mut done = o;
     let mut id: u32 = 1;
     while (id as usize) < records {

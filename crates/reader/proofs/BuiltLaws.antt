@@ -14,16 +14,17 @@ use lib.ListN.{length, getD, take}
 use lib.Seq.{slice, getD-append-add, getD-take, getD-drop}
 use Rattle.text.specs.Result.{ok, checkEach}
 use Rattle.text.specs.Unicode.{Below}
-use Rattle.text.proofs.AsciiLaws.{ascii-lossy}
+use Rattle.text.proofs.AsciiLaws.{ascii-well-formed, ascii-lossy}
 use Rattle.text.proofs.ResultLaws.{checkEach-yes, each-holds}
 use Rattle.text.proofs.SameLaws.{same-refl}
+use Rattle.text.proofs.utf8.Lossy.{sound-replaced}
 use Rattle.writer.specs.FileWrapper.{u32Bytes, u32s, regions, offsetsFrom, fileWrapper}
 use Rattle.writer.proofs.FileWrapperLaws.{offsets-are, length-file-wrapper}
 use Rattle.writer.proofs.LayoutLaws.{u32s-cons, region-count, offset-next, file-words, file-heap, classes-at, block-0, block-at, record-at, normal-0}
 use Rattle.reader.specs.Blocks.{nextBlock, blockAt, blocksFrom, blocks}
 use Rattle.reader.specs.Decode.{anyName, stringName}
-use Rattle.reader.specs.Names.{pieces, nameBytes}
-use Rattle.reader.specs.Objects.{checkBlock, blockStart, propertyCount, recordRow, objectOf, triplesFrom, checkTriple, checkTriples, recordTriples, objectTriples, position, findProperty}
+use Rattle.reader.specs.Names.{pieces, nameBytes, soundText}
+use Rattle.reader.specs.Objects.{checkBlock, blockStart, propertyCount, recordRow, objectOf, triplesFrom, checkTriple, checkTriples, recordTriples, recordProperties, objectProperties, position, findProperty}
 use Rattle.reader.specs.Opening.{offset, isWithin, isOrdered, checkRegions, layout, opened}
 use Rattle.reader.specs.Queries.{shown, nameText, checkNames, entryText, entryOf, classOf, objectRecord, checkObject, objectClassText}
 use Rattle.reader.specs.Wire.{u32At}
@@ -190,13 +191,22 @@ module _ (n : ℕ) (few : n ≤ 349522) where
 
   -- ---- names
 
-  pub names-are : (shown b w 1 ≡ anyName) × (shown b w 2 ≡ stringName)
+  stored : (nameBytes b (w .offsets .o0) 1 ≡ anyName) × (nameBytes b (w .offsets .o0) 2 ≡ stringName)
   unfolding nameBytes pieces
-  names-are = (rw (file-heap n) (ascii-lossy anyName (omega arith)), rw (file-heap n) (ascii-lossy stringName (omega arith)))
+  stored = (rw (file-heap n), rw (file-heap n))
 
-  pub built-name : nameText (fileWrapper n) 1 ≡ ok anyName
+  pub names-are : (shown b w 1 .text ≡ anyName) × (shown b w 2 .text ≡ stringName)
+  names-are = (rw (stored .0) (ascii-lossy anyName (omega arith)), rw (stored .1) (ascii-lossy stringName (omega arith)))
+
+  names-sound : (shown b w 1 .replaced ≡ 0) × (shown b w 2 .replaced ≡ 0)
+  names-sound = (
+    rw (stored .0) (sound-replaced anyName (ascii-well-formed anyName (omega arith))),
+    rw (stored .1) (sound-replaced stringName (ascii-well-formed stringName (omega arith))),
+  )
+
+  pub built-name : nameText (fileWrapper n) 1 ≡ ok (soundText anyName)
   unfolding nameText
-  built-name = rw built-opens (ap ok (names-are .0))
+  built-name = rw built-opens (rw (names-are .0, names-sound .0))
 
   -- ---- objects
 
@@ -238,13 +248,13 @@ module _ (n : ℕ) (few : n ≤ 349522) where
     unfolding recordRow
     built-object = ap (recordRow b w) record-is ∙ simp (block-checked, one-property, not-0)
 
-    pub class-is : classOf b w (objectRecord b w id .«class_id») ≡ ok stringName
+    pub class-is : classOf b w (objectRecord b w id .«class_id») ≡ ok (soundText stringName)
     unfolding classOf entryOf entryText checkNames
     class-is =
         ap (λ (r : ObjectRecord). classOf b w (r .«class_id»)) record-is
-        ∙ simp (class-word 4 (omega arith), class-word 5 (omega arith)) (ap ok (names-are .1))
+        ∙ simp (class-word 4 (omega arith), class-word 5 (omega arith)) (rw (names-are .1, names-sound .1))
 
-    pub built-class : objectClassText (fileWrapper n) id ≡ ok stringName
+    pub built-class : objectClassText (fileWrapper n) id ≡ ok (soundText stringName)
     unfolding objectClassText
     built-class = rw (built-opens, object-checked) class-is
 
@@ -258,9 +268,9 @@ module _ (n : ℕ) (few : n ≤ 349522) where
         ap (recordTriples b w) record-is
         ∙ simp (block-checked, one-property, start-is, two, three, x 1 (omega arith), x 2 (omega arith), x 3 (omega arith))
 
-    pub built-triples : objectTriples (fileWrapper n) id ≡ ok ((record { «name_idx» = 1; «field_type» = 1; value = id - 1 }) ∷ [])
-    unfolding objectTriples
-    built-triples = rw (built-opens, object-checked) triples-are
+    pub built-properties : objectProperties (fileWrapper n) id ≡ ok ((1 ∷ 1 ∷ (id - 1) ∷ 0 ∷ 0 ∷ []) ∷ [])
+    unfolding objectProperties recordProperties
+    built-properties = rw (built-opens, object-checked, triples-are, names-sound .0)
 
     pub built-find : findProperty (fileWrapper n) id anyName ≡ ok (some 0)
     unfolding findProperty position

@@ -11,13 +11,14 @@ use Rattle.text.specs.Result.{Result, ok, error, _>>_}
 use Rattle.text.specs.declared.error.Failure.{Failure}
 use Rattle.text.proofs.TestLaws.{either}
 use Rattle.text.proofs.Utf8Laws.{scalars8-empty, lossy-same}
+use Rattle.text.proofs.utf8.Lossy.{sound-replaced}
 use Rattle.reader.specs.Cells.{checkDirectory}
 use Rattle.reader.specs.Decode.{metadataStrings, objectStrings}
 use Rattle.reader.specs.Labels.{placeholderPart, labelOf}
-use Rattle.reader.specs.Names.{nameBytes}
-use Rattle.reader.specs.Objects.{objectRows, objectsFrom, objectTriples, findProperty}
+use Rattle.reader.specs.Names.{nameBytes, soundText}
+use Rattle.reader.specs.Objects.{objectRows, objectsFrom, objectProperties, findProperty}
 use Rattle.reader.specs.Opening.{emptyWrapper, opened}
-use Rattle.reader.specs.Queries.{intoOutput, nameText, entryOf, classOf, classText, checkObject, objectClassText}
+use Rattle.reader.specs.Queries.{intoOutput, intoText, nameText, entryOf, classOf, classText, checkObject, objectClassText}
 use Rattle.reader.specs.declared.file_wrapper.FileWrapper.{FileWrapper}
 use Rattle.reader.proofs.labels.Laws.{label-zero}
 use Rattle.reader.proofs.file_wrapper.Laws.{no-2}
@@ -35,9 +36,9 @@ short-refused b h l = sym (no-2 b l (λ z. omega arith))
 -- ---- names, classes and objects
 
 -- index 0, into an output of any length
-pub empty-name : (room : ℕ) → intoOutput (nameText [] 0) room ≡ ok []
+pub empty-name : (room : ℕ) → intoText (nameText [] 0) room ≡ ok (soundText [])
 unfolding nameText nameBytes
-empty-name room = rw (empty-opens, lossy-same [] scalars8-empty) (simp (le-leb 0 room (omega arith)))
+empty-name room = rw (empty-opens, lossy-same [] scalars8-empty, sound-replaced [] scalars8-empty) (simp (le-leb 0 room (omega arith)))
 
 pub empty-name-refused : (i : ℕ) → 1 ≤ i → nameText [] i ≡ error (record { number = 11; place = i })
 unfolding nameText
@@ -72,8 +73,8 @@ module _ (id : ℕ) where
   unfolding objectClassText
   empty-object-class = rw (empty-opens, refused)
 
-  pub empty-properties : objectTriples [] id ≡ error no-object
-  unfolding objectTriples
+  pub empty-properties : objectProperties [] id ≡ error no-object
+  unfolding objectProperties
   empty-properties = rw (empty-opens, refused)
 
   pub empty-find : (wanted : List ℕ) → findProperty [] id wanted ≡ error no-object

@@ -8,25 +8,29 @@ use native.Mathlib.Omega.{arith}
 use borrow.Author.Tests.{le-leb, lt-leb, leb-true}
 use lib.Dec.{leb, eqb}
 use lib.ListN.{length, take, drop}
-use lib.Seq.{slice}
+use lib.Seq.{slice, length-slice}
 use Rattle.text.specs.Errors.{failureOf}
-use Rattle.text.specs.Replies.{WritesLossy}
+use Rattle.text.specs.Replies.{lossyLength, WritesLossy}
 use Rattle.text.specs.Result.{Result, ok, error, mapResult, checkEach, overwritten, needPlace}
 use Rattle.text.specs.Utf8.{lossy, partsFrom, replacedIn}
 use Rattle.text.specs.declared.error.MatError.{MatError}
 use Rattle.text.specs.declared.error.MatError.the-variants.{NameIndexOutOfRange, OutputTooShort}
+use Rattle.text.specs.declared.utf8.LossyLength.{LossyLength}
+use Rattle.text.specs.declared.utf8.LossyLength.the-variants as measure
 use Rattle.text.specs.declared.utf8.LossyReply.{LossyReply}
 use Rattle.text.specs.declared.utf8.LossyReply.the-variants as lossyReply
 use Rattle.text.proofs.BufferLaws.{length-over}
 use Rattle.text.proofs.ResultLaws.{reply-is, same-value, check-passed, seq-passed, bind-passed, checkEach-passed}
 use Rattle.text.proofs.TestLaws.{either}
+use Rattle.text.proofs.Utf8Laws.{lossy-le}
+use Rattle.text.proofs.utf8.Lossy.{length-is, too-long-is, replaced-le}
 use Rattle.reader.specs.Blocks.{blocks}
-use Rattle.reader.specs.Names.{nameBytes}
-use Rattle.reader.specs.Stages.Names.{HasName, IsName, InBlob}
+use Rattle.reader.specs.Names.{ShownText, nameBytes, shownBytes}
+use Rattle.reader.specs.Stages.Names.{pieceBytes, shownPiece, HasName, IsName, InBlob, IsSize}
 use Rattle.reader.specs.Opening.{declaredNames, offset, offsets, isWithin, isOrdered, pieceCount, wrapperOf, checkRegions, layout, emptyWrapper, opened}
 use Rattle.reader.specs.Stages.Opening.{Opens}
-use Rattle.reader.specs.Queries.{intoOutput, nameText}
-use Rattle.reader.specs.Replies.{parseReplyOf, nameReplyOf, WritesText}
+use Rattle.reader.specs.Queries.{intoOutput, intoText, nameText}
+use Rattle.reader.specs.Replies.{TextSize, textSizeOf, parseReplyOf, nameReplyOf, WritesText}
 use Rattle.reader.specs.declared.file_wrapper.FileWrapper.{FileWrapper}
 use Rattle.reader.specs.declared.file_wrapper.ParseReply.{ParseReply}
 use Rattle.reader.specs.declared.file_wrapper.ParseReply.the-variants as parse
@@ -123,21 +127,22 @@ part-slice (suc a) (suc e) (x ∷ b) h =
     let z : suc e - suc a ≡ e - a = omega arith in
     rw z (part-slice a e b (omega arith))
 
-pub refused : (m : Result (List ℕ)) (text : List ℕ) (e : MatError) → m ≡ error (failureOf e) → WritesText m text (name.Error e) text
+pub refused : (m : Result ShownText) (text : List ℕ) (e : MatError) → m ≡ error (failureOf e) → WritesText m text (name.Error e) text
 refused m text e w = rw w (record { reply = refl; buffer = refl })
 
 module _ (s text : List ℕ) {x : LossyReply} {text' : List ℕ} (l : WritesLossy s text x text') where
-  pub piece-written : {n k : ℕ} → x ≡ lossyReply.Written n k → WritesText (ok (lossy s)) text (name.Text n) text'
+  pub piece-written : {n k : ℕ} → x ≡ lossyReply.Written n k → WritesText (ok (shownBytes s)) text (name.Text n k) text'
   piece-written {n} {k} g =
       either (leb (length (lossy s)) (length text))
       (λ t. let w : lossyReply.Written n k ≡ lossyReply.Written (length (lossy s)) (replacedIn (partsFrom s 0)) = sym g ∙ simp t at (l .reply) in
       let z : n ≡ length (lossy s) = cc in
-      record { reply = simp t (ap ok z); buffer = simp t (simp t at (l .buffer)) })
+      let y : k ≡ replacedIn (partsFrom s 0) = cc in
+      record { reply = simp t (rw (z, y)); buffer = simp t (simp t at (l .buffer)) })
       (λ t. let w : lossyReply.Written n k ≡ lossyReply.TooShort (needPlace (length (lossy s))) = sym g ∙ simp t at (l .reply) in
       let z : _≡_ {A = ℕ} 0 1 = cc in
       absurd (omega arith))
 
-  pub piece-short : {n : ℕ} → x ≡ lossyReply.TooShort n → WritesText (ok (lossy s)) text (name.Error (OutputTooShort n)) text'
+  pub piece-short : {n : ℕ} → x ≡ lossyReply.TooShort n → WritesText (ok (shownBytes s)) text (name.Error (OutputTooShort n)) text'
   piece-short {n} g =
       either (leb (length (lossy s)) (length text))
       (λ t. let w : lossyReply.TooShort n ≡ lossyReply.Written (length (lossy s)) (replacedIn (partsFrom s 0)) = sym g ∙ simp t at (l .reply) in
@@ -148,14 +153,14 @@ module _ (s text : List ℕ) {x : LossyReply} {text' : List ℕ} (l : WritesLoss
       record { reply = simp t (ap (λ (p : ℕ). error (record { number = 34; place = p })) z); buffer = simp t (simp t at (l .buffer)) })
 
 -- a call that writes a text keeps the buffer's length
-same-by : (m : Result (List ℕ)) (text text' : List ℕ) → text' ≡ overwritten (λ t. t) (intoOutput m (length text)) text → length text' ≡ length text
+same-by : (m : Result ShownText) (text text' : List ℕ) → text' ≡ overwritten (λ t. t .text) (intoText m (length text)) text → length text' ≡ length text
 same-by (error e) text text' w = ap length w
 same-by (ok t) text text' w =
-    either (leb (length t) (length text))
-    (λ h. ap length (simp h at w) ∙ length-over t text (leb-true (length t) (length text) h))
+    either (leb (length (t .text)) (length text))
+    (λ h. ap length (simp h at w) ∙ length-over (t .text) text (leb-true (length (t .text)) (length text) h))
     (λ h. ap length (simp h at w))
 
-pub text-same : {m : Result (List ℕ)} {text text' : List ℕ} {r : NameReply} → WritesText m text r text' → length text' ≡ length text
+pub text-same : {m : Result ShownText} {text text' : List ℕ} {r : NameReply} → WritesText m text r text' → length text' ≡ length text
 text-same {m} {text} {text'} w = same-by m text text' (w .buffer)
 
 -- the same of a part of the blob
@@ -164,11 +169,32 @@ module _ (b text : List ℕ) {p : Piece} {x : LossyReply} {text' : List ℕ} (i 
   whole : WritesLossy (slice (p .start) (p .end) b) text x text'
   whole = subst (λ (s : List ℕ). WritesLossy s text x text') (part-slice (p .start) (p .end) b (i .order)) l
 
-  pub part-written : {n k : ℕ} → x ≡ lossyReply.Written n k → WritesText (ok (lossy (slice (p .start) (p .end) b))) text (name.Text n) text'
+  pub part-written : {n k : ℕ} → x ≡ lossyReply.Written n k → WritesText (ok (shownPiece b p)) text (name.Text n k) text'
   part-written g = piece-written (slice (p .start) (p .end) b) text whole g
 
-  pub part-short : {n : ℕ} → x ≡ lossyReply.TooShort n → WritesText (ok (lossy (slice (p .start) (p .end) b))) text (name.Error (OutputTooShort n)) text'
+  pub part-short : {n : ℕ} → x ≡ lossyReply.TooShort n → WritesText (ok (shownPiece b p)) text (name.Error (OutputTooShort n)) text'
   part-short g = piece-short (slice (p .start) (p .end) b) text whole g
+
+-- the size of a piece
+module _ (b : List ℕ) {p : Piece} (i : InBlob b p) {x : LossyLength} (e : x ≡ lossyLength (take (p .end - p .start) (drop (p .start) b))) where
+  said : x ≡ lossyLength (pieceBytes b p)
+  said = e ∙ ap lossyLength (part-slice (p .start) (p .end) b (i .order))
+
+  most : length (lossy (pieceBytes b p)) ≤ 50331648
+  most = omega (arith, lossy-le (pieceBytes b p), length-slice (p .start) (p .end) b (i .inside), i)
+
+  pub piece-size : {n k : ℕ} → x ≡ measure.Length n k → IsSize b p (record { bytes = n; replaced = k })
+  piece-size g =
+      let l = length-is (pieceBytes b p) said g in
+      record {
+        bytes = l .0;
+        most = omega (arith, l, most);
+        replaced = l .1;
+        few = omega (arith, l, replaced-le (pieceBytes b p), length-slice (p .start) (p .end) b (i .inside), i);
+      }
+
+  pub size-never : x ≡ measure.TooLong → IsSize b p (record { bytes = 0; replaced = 0 })
+  size-never g = absurd (omega (arith, too-long-is (pieceBytes b p) said g, most))
 
 -- what was written lies in its output
 pub in-output : {A : Type 0} (m : Result (List A)) (room n : ℕ) → ok n ≡ mapResult length (intoOutput m room) → n ≤ room
@@ -184,10 +210,21 @@ in-output (ok xs) room n e =
     let z : _≡_ {A = ℕ} 0 1 = cc in
     absurd (omega arith))
 
-pub text-in-output : {m : Result (List ℕ)} {text text' : List ℕ} {r : NameReply} {n : ℕ} → r ≡ name.Text n → WritesText m text r text' → n ≤ length text'
-text-in-output {m} {text} {n = n} g w =
-    let e : ok n ≡ mapResult length (intoOutput m (length text)) = ap nameReplyOf (sym g) ∙ w .reply in
-    omega (arith, in-output m (length text) n e, text-same w)
+pub text-in-output : {m : Result ShownText} {text text' : List ℕ} {r : NameReply} {n k : ℕ} → r ≡ name.Text n k → WritesText m text r text' → n ≤ length text'
+text-in-output {m} {text} {n = n} {k = k} g w =
+    omega (arith, in-text m (length text) (record { bytes = n; replaced = k }) (ap nameReplyOf (sym g) ∙ w .reply), text-same w)
+  where
+    in-text : (m : Result ShownText) (room : ℕ) (s : TextSize) → ok s ≡ mapResult textSizeOf (intoText m room) → s .bytes ≤ room
+    in-text (error f) room s e =
+        let z : _≡_ {A = ℕ} 0 1 = cc in
+        absurd (omega arith)
+    in-text (ok t) room s e =
+        either (leb (length (t .text)) room)
+        (λ h. let q : s ≡ textSizeOf t = same-value (simp h at e) in
+        omega (arith, ap (λ (x : TextSize). x .bytes) q, leb-true (length (t .text)) room h))
+        (λ h. let q : ok s ≡ error (record { number = 34; place = needPlace (length (t .text)) }) = simp h at e in
+        let z : _≡_ {A = ℕ} 0 1 = cc in
+        absurd (omega arith))
 
 -- ---- names
 
@@ -210,8 +247,8 @@ module _ (b : List ℕ) (i : ℕ) {x : ParseReply} (e : parseReplyOf x ≡ opene
     in-blob n = record { order = n .order; inside = n .inside; most = parsed b e g .most }
 
     pub name-written : {text text' : List ℕ} {r : NameReply} {p : Piece} → i ≤ w .names → IsName b (w .offsets .o0) i p
-        → WritesText (ok (lossy (slice (p .start) (p .end) b))) text r text' → WritesText (nameText b i) text r text'
+        → WritesText (ok (shownPiece b p)) text r text' → WritesText (nameText b i) text r text'
     unfolding nameText
     name-written {text} {text'} {r} h n t =
-        let m : nameText b i ≡ ok (lossy (nameBytes b (w .offsets .o0) i)) = rw (reply-is parseReplyOf e g) (simp (le-leb i (w .names) h)) in
+        let m : nameText b i ≡ ok (shownBytes (nameBytes b (w .offsets .o0) i)) = rw (reply-is parseReplyOf e g) (simp (le-leb i (w .names) h)) in
         rw m (rw (n .is) at t)

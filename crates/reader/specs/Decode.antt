@@ -9,6 +9,7 @@ use lib.ListN.{length, getD}
 use Rattle.text.specs.Buffer.{same}
 use Rattle.text.specs.Result.{Result, ok, check, _>>_, _>>=_}
 use Rattle.reader.specs.Cells.{checkDirectory, cellAt, cellOf}
+use Rattle.reader.specs.Names.{ShownText}
 use Rattle.reader.specs.Objects.{recordTriples, position, isNamed}
 use Rattle.reader.specs.Opaque.{opaqueMetadata}
 use Rattle.reader.specs.Opening.{opened}
@@ -52,10 +53,10 @@ abbrev pub stringName : List ℕ
 stringName = 0x73 ∷ 0x74 ∷ 0x72 ∷ 0x69 ∷ 0x6E ∷ 0x67 ∷ []
 
 -- 16 for a class, as it is shown
-abbrev pub checkStringClass : Result (List ℕ) → Result (Unit {0})
+abbrev pub checkStringClass : Result ShownText → Result (Unit {0})
 checkStringClass shown = do
   class ← shown
-  check 16 (same class stringName) 0
+  check 16 (same (class .text) stringName) 0
 
 -- 9, 11, 11, 16 for the class of an id
 unfoldable pub stringClass : List ℕ → FileWrapper → ℕ → Result (Unit {0})

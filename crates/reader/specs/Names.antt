@@ -6,7 +6,7 @@ use mathlib.Core.List.{List, [], _∷_}
 use lib.Dec.{eqb}
 use lib.ListN.{getD, length, take}
 use lib.Seq.{slice}
-use Rattle.text.specs.Utf8.{lossy}
+use Rattle.text.specs.Utf8.{lossy, partsFrom, replacedIn}
 
 -- one byte before the first piece
 abbrev pub onto : ℕ → List (List ℕ) → List (List ℕ)
@@ -35,6 +35,19 @@ lengthWithZeros (p ∷ ps) = length p + 1 + lengthWithZeros ps
 abbrev pub nameStart : List ℕ → ℕ → ℕ → ℕ
 nameStart b end i = 40 + lengthWithZeros (take (i - 1) (pieces (heapOf b end)))
 
--- the name as it is shown: "each maximal ill-formed part becomes EF BF BD"
-abbrev pub shownName : List ℕ → ℕ → ℕ → List ℕ
-shownName b end i = lossy (nameBytes b end i)
+-- a text as it is shown, and "how many replacement characters were put in for ill-formed parts" (document 02, P5)
+pub record ShownText : Type 0 where
+  pub text : List ℕ
+  pub replaced : ℕ
+
+-- bytes as they are shown: "each maximal ill-formed part becomes EF BF BD", and "A genuine U+FFFD in the file isn't counted."
+abbrev pub shownBytes : List ℕ → ShownText
+shownBytes s = record { text = lossy s; replaced = replacedIn (partsFrom s 0) }
+
+-- a text in which nothing was replaced
+abbrev pub soundText : List ℕ → ShownText
+soundText s = record { text = s; replaced = 0 }
+
+-- the name as it is shown
+abbrev pub shownName : List ℕ → ℕ → ℕ → ShownText
+shownName b end i = shownBytes (nameBytes b end i)

@@ -2,7 +2,7 @@
 -- Assumes nothing.
 use Prim.Native.Nat.{ℕ, zero, suc, _+_, _-_}
 use mathlib.Core.Bool.{Bool, cond, _||_}
-use mathlib.Core.List.{List, [], _∷_}
+use mathlib.Core.List.{List, [], _∷_, map}
 use mathlib.Core.Option.{Option, some, none, Option·map}
 use lib.Dec.{leb, ltb, eqb}
 use Rattle.text.specs.Buffer.{same}
@@ -113,16 +113,28 @@ recordTriples b w r = do
   checkTriples w (triplesOf b w r)
   ok (triplesOf b w r)
 
+-- "one row a triple with its three numbers", and then "the count for its name, and for its value where that is a name (else 0)" (document 02,
+-- P5), where count gives those of a name index
+abbrev pub rowOf : (ℕ → ℕ) → Triple → List ℕ
+rowOf count t =
+    t .«name_idx» ∷ t .«field_type» ∷ t .value ∷ count (t .«name_idx») ∷ cond (eqb (t .«field_type») 0) (count (t .value)) 0 ∷ []
+
+-- the count of a name index: "how many replacement characters were put in"
+abbrev pub replacedOf : List ℕ → FileWrapper → ℕ → ℕ
+replacedOf b w i = shown b w i .replaced
+
+-- the properties of an object's record: 10, then the checks of each triple
+unfoldable pub recordProperties : List ℕ → FileWrapper → ObjectRecord → Result (List (List ℕ))
+recordProperties b w r = do
+  ts ← recordTriples b w r
+  ok (map (rowOf (replacedOf b w)) ts)
+
 -- "Properties: 1–7, 8, 10, then for each triple 11 for its name, 12, and 11 again if the type is 0"
-unfoldable pub objectTriples : List ℕ → ℕ → Result (List Triple)
-objectTriples b id = do
+unfoldable pub objectProperties : List ℕ → ℕ → Result (List (List ℕ))
+objectProperties b id = do
   w ← opened b
   checkObject w id
-  recordTriples b w (objectRecord b w id)
-
--- "one row a triple with its three numbers"
-abbrev pub rowOf : Triple → List ℕ
-rowOf t = t .«name_idx» ∷ t .«field_type» ∷ t .value ∷ []
+  recordProperties b w (objectRecord b w id)
 
 -- the position, from 0, of the first element for which a test holds
 unfoldable pub position : {A : Type 0} → (A → Bool) → List A → Option ℕ
@@ -131,7 +143,7 @@ position p (x ∷ xs) = cond (p x) (some 0) (Option·map suc (position p xs))
 
 -- a triple's "shown name equals the given bytes"
 abbrev pub isNamed : List ℕ → FileWrapper → List ℕ → Triple → Bool
-isNamed b w wanted t = same (shown b w (t .«name_idx»)) wanted
+isNamed b w wanted t = same (shown b w (t .«name_idx») .text) wanted
 
 -- "Finding: as Properties, without 34": "the position, from 0, of the first whose shown name equals the given bytes, else none"
 unfoldable pub findProperty : List ℕ → ℕ → List ℕ → Result (Option ℕ)

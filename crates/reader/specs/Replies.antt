@@ -2,7 +2,7 @@
 -- Assumes nothing.
 use Prim.Native.Nat.{ℕ}
 use mathlib.Core.Path.{_≡_}
-use mathlib.Core.List.{List, map}
+use mathlib.Core.List.{List}
 use mathlib.Core.Option.{Option, some, none}
 use lib.ListN.{length}
 use Rattle.text.specs.Errors.{failureOf}
@@ -10,8 +10,9 @@ use Rattle.text.specs.Replies.{lengthReplyOf}
 use Rattle.text.specs.Result.{Result, ok, error, mapResult, overwritten}
 use Rattle.text.specs.declared.reply.LengthReply.{LengthReply}
 use Rattle.writer.specs.Spans.{joined, spansFrom}
-use Rattle.reader.specs.Objects.{rowOf, objectRows}
-use Rattle.reader.specs.Queries.{intoOutput}
+use Rattle.reader.specs.Names.{ShownText}
+use Rattle.reader.specs.Objects.{objectRows}
+use Rattle.reader.specs.Queries.{intoOutput, intoText}
 use Rattle.reader.specs.Saveobj.{intoStrings}
 use Rattle.reader.specs.declared.file_wrapper.FileWrapper.{FileWrapper}
 use Rattle.reader.specs.declared.file_wrapper.ParseReply.{ParseReply}
@@ -21,7 +22,6 @@ use Rattle.reader.specs.declared.find.FindReply.the-variants as find
 use Rattle.reader.specs.declared.names.NameReply.{NameReply}
 use Rattle.reader.specs.declared.names.NameReply.the-variants as name
 use Rattle.reader.specs.declared.objects.ObjectRow.{ObjectRow}
-use Rattle.reader.specs.declared.records.Triple.{Triple}
 use Rattle.reader.specs.declared.saveobj.StringsReply.{StringsReply}
 use Rattle.reader.specs.declared.saveobj.StringsReply.the-variants as strings
 
@@ -30,20 +30,29 @@ abbrev pub parseReplyOf : ParseReply → Result FileWrapper
 parseReplyOf (parse.Parsed w) = ok w
 parseReplyOf (parse.Error e) = error (failureOf e)
 
--- a text's length in bytes, or the refusal
-abbrev pub nameReplyOf : NameReply → Result ℕ
-nameReplyOf (name.Text n) = ok n
+-- a shown text's length in bytes, and the replacement characters that were put into it
+pub record TextSize : Type 0 where
+  pub bytes : ℕ
+  pub replaced : ℕ
+
+-- those of a text
+abbrev pub textSizeOf : ShownText → TextSize
+textSizeOf t = record { bytes = length (t .text); replaced = t .replaced }
+
+-- what resolving a name or a class replies, or the refusal
+abbrev pub nameReplyOf : NameReply → Result TextSize
+nameReplyOf (name.Text n k) = ok (record { bytes = n; replaced = k })
 nameReplyOf (name.Error e) = error (failureOf e)
 
 -- a call that writes the text that a query comes to
-pub record WritesText (m : Result (List ℕ)) (text : List ℕ) (r : NameReply) (text' : List ℕ) : Type 0 where
-  pub reply : nameReplyOf r ≡ mapResult length (intoOutput m (length text))
-  pub buffer : text' ≡ overwritten (λ t. t) (intoOutput m (length text)) text
+pub record WritesText (m : Result ShownText) (text : List ℕ) (r : NameReply) (text' : List ℕ) : Type 0 where
+  pub reply : nameReplyOf r ≡ mapResult textSizeOf (intoText m (length text))
+  pub buffer : text' ≡ overwritten (λ t. t .text) (intoText m (length text)) text
 
--- a call that writes a row for each of the triples that a query comes to
-pub record WritesRows (m : Result (List Triple)) (rows : List (List ℕ)) (r : LengthReply) (rows' : List (List ℕ)) : Type 0 where
+-- a call that writes the rows that a query comes to
+pub record WritesRows (m : Result (List (List ℕ))) (rows : List (List ℕ)) (r : LengthReply) (rows' : List (List ℕ)) : Type 0 where
   pub reply : lengthReplyOf r ≡ mapResult length (intoOutput m (length rows))
-  pub buffer : rows' ≡ overwritten (map rowOf) (intoOutput m (length rows)) rows
+  pub buffer : rows' ≡ overwritten (λ x. x) (intoOutput m (length rows)) rows
 
 -- the position of a property, that there is none, or the refusal
 abbrev pub findReplyOf : FindReply → Result (Option ℕ)

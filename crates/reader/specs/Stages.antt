@@ -8,6 +8,7 @@ pub mod Names
 pub mod Objects
 pub mod Opening
 pub mod Properties
+pub mod Replacements
 pub mod Saveobj
 pub mod StringObjects
 pub mod Units

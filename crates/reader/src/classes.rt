@@ -4,48 +4,32 @@ use crate::file_wrapper::ParseReply;
 use crate::names::NameReply;
 use crate::names::Piece;
 use crate::names::name_piece;
+use crate::names::piece_size;
 use crate::names::write_piece;
 use crate::objects::check_object;
 use crate::objects::object_record;
 use crate::records::ClassEntry;
 use text::error::MatError;
 use text::reply::Checked;
-use text::utf8::LossyLength;
 use text::utf8::is_lossy;
-use text::utf8::lossy_length;
 use text::utf8::put_lossy;
 ghost use mathlib.Core.Path.{_≡_};
-ghost use mathlib.Core.List.{_∷_, _++_};
 ghost use Prim.Native.Nat.{_≤_, _+_};
 ghost use lib.ListN.{length};
 ghost use Rattle.text.specs.Buffer.{Puts};
 ghost use Rattle.text.specs.Replies.{checkedOf};
 ghost use Rattle.text.specs.Result.{ok};
-ghost use Rattle.text.specs.Utf8.{lossy};
 ghost use Rattle.reader.specs.Decode.{checkStringClass, stringClass};
-ghost use Rattle.reader.specs.Stages.Names.{pieceBytes, InBlob, IsLength, BothInBlob};
+ghost use Rattle.reader.specs.Stages.Names.{shownPiece, InBlob, BothInBlob};
 ghost use Rattle.reader.specs.Stages.Opening.{Opens};
-ghost use Rattle.reader.specs.Queries.{checkNames, entryText, entryOf, classOf, classText, objectClassText};
+ghost use Rattle.reader.specs.Queries.{qualified, checkNames, entryText, entryOf, classOf, classText, objectClassText};
 ghost use Rattle.reader.specs.Stages.Classes.{classReplyOf};
 ghost use Rattle.reader.specs.Replies.{WritesText};
 
-// The repaired length of a piece.
-fn piece_length(blob: &[u8], piece: Piece) -> usize
-    requires { ⌜ InBlob (now blob) piece ⌝ }
-    ensures { λ r. ⌜ IsLength (now (blob .entry)) piece r ⌝ }
-{
-    let start = piece.start;
-    let end = piece.end;
-    match lossy_length(&blob[start..end]) {
-        LossyLength::Length { bytes, replaced: _ } => bytes,
-        LossyLength::TooLong => 0,
-    }
-}
-
 // The repaired bytes of a piece in text from index at on.
 fn put_piece(blob: &[u8], piece: Piece, text: &mut [u8], at: usize) -> usize
-    requires { ⌜ InBlob (now blob) piece × (at + length (lossy (pieceBytes (now blob) piece)) ≤ length (now text)) ⌝ }
-    ensures { λ r. ⌜ Puts (now (text .entry)) at (lossy (pieceBytes (now (blob .entry)) piece)) r (now (text .exit)) ⌝ }
+    requires { ⌜ InBlob (now blob) piece × (at + length (shownPiece (now blob) piece .text) ≤ length (now text)) ⌝ }
+    ensures { λ r. ⌜ Puts (now (text .entry)) at (shownPiece (now (blob .entry)) piece .text) r (now (text .exit)) ⌝ }
 {
     let start = piece.start;
     let end = piece.end;
@@ -56,19 +40,21 @@ fn put_piece(blob: &[u8], piece: Piece, text: &mut [u8], at: usize) -> usize
 fn write_joined(blob: &[u8], namespace: Piece, name: Piece, text: &mut [u8]) -> NameReply
     requires { ⌜ BothInBlob (now blob) «namespace» name ⌝ }
     ensures { λ r. ⌜ (
-        let first = lossy (pieceBytes (now (blob .entry)) «namespace») in
-        let second = lossy (pieceBytes (now (blob .entry)) name) in
-        WritesText (ok (first ++ 0x2E ∷ second)) (now (text .entry)) r (now (text .exit))) ⌝ }
+        let class = qualified (shownPiece (now (blob .entry)) «namespace») (shownPiece (now (blob .entry)) name) in
+        WritesText (ok class) (now (text .entry)) r (now (text .exit))) ⌝ }
 {
-    let stop = piece_length(blob, namespace);
-    let need = stop + 1 + piece_length(blob, name);
-    if text.len() < need {
-        return NameReply::Error(MatError::OutputTooShort(need as u64));
+    let first = piece_size(blob, namespace);
+    let second = piece_size(blob, name);
+    let stop = first.bytes;
+    let bytes = stop + 1 + second.bytes;
+    let replaced = first.replaced + second.replaced;
+    if text.len() < bytes {
+        return NameReply::Error(MatError::OutputTooShort(bytes as u64));
     }
     put_piece(blob, namespace, text, 0);
     text[stop] = b'.';
     put_piece(blob, name, text, stop + 1);
-    NameReply::Text(need)
+    NameReply::Text { bytes, replaced }
 }
 
 // The entry of a class, or the refusal.

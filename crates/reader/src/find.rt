@@ -1,6 +1,8 @@
 // Finding a property by its name.
 use crate::file_wrapper::FileWrapper;
 use crate::file_wrapper::HEADER;
+use crate::names::CHUNK;
+use crate::names::chunk_end;
 use crate::names::piece_end;
 use crate::properties::TriplesReply;
 use crate::properties::object_triples;
@@ -14,10 +16,6 @@ ghost use Rattle.reader.specs.Objects.{isNamed, findProperty, triplesFro
 ghost use Rattle.reader.specs.Stages.Properties.{TriplesIn, PassedTriples};
 ghost use Rattle.reader.specs.Stages.Find.{firstIndex, firstOf, flagged, ToNames, ComparesName, FlagsNames, ScansNames};
 ghost use Rattle.reader.specs.Replies.{findReplyOf};
-
-// So many names are looked at, and flagged, before the triples are searched once for all of them: a search for each name by itself
-// would take names times triples where many names are the same.
-const CHUNK: usize = 4096;
 
 // Whether a name index, of first up to end, has its flag set.
 fn is_flagged(flags: &[bool; 4096], first: usize, end: usize, index: usize) -> bool
@@ -112,19 +110,8 @@ struct Walk {
     best: usize,
 }
 
-// Where the chunk ends that begins at name.
-fn chunk_end(name: usize, names: u32) -> usize
-    requires { ⌜ name ≤ names ⌝ }
-    ensures { λ r. ⌜ (name < r) × (r ≤ name + 4096) × (r ≤ names + 1) ⌝ }
-{
-    let left = names as usize - name;
-    if left < CHUNK {
-        return names as usize + 1;
-    }
-    name + CHUNK
-}
-
-// Looks at a chunk of names, and if one of them is wanted, at the triples before best.
+// Looks at a chunk of names, and if one of them is wanted, at the triples before best. A search of the triples for each name by itself would
+// take names times triples where many names are the same.
 fn next_chunk(blob: &[u8], w: FileWrapper, at: usize, walk: Walk, wanted: &[u8]) -> Walk
     requires { ⌜ ToNames (now blob) w (walk .name) (walk .name + 1) (walk .start) × TriplesIn (now blob) at (walk .best) ⌝ }
     ensures { λ r. ⌜ ScansNames (now (blob .entry)) w at (now (wanted .entry)) walk r ⌝ }

@@ -12,6 +12,7 @@ pub mod objects;
 pub mod opaque;
 pub mod properties;
 mod records;
+mod replacements;
 pub mod saveobj;
 pub mod string_objects;
 mod units;

@@ -3,16 +3,17 @@ use crate::file_wrapper::FileWrapper;
 use crate::file_wrapper::HEADER;
 use crate::file_wrapper::ParseReply;
 use text::error::MatError;
+use text::utf8::LossyLength;
 use text::utf8::LossyReply;
+use text::utf8::lossy_length;
 use text::utf8::write_lossy;
 ghost use mathlib.Core.Path.{_≡_};
 ghost use Prim.Native.Nat.{_+_, _≤_, _<_};
 ghost use lib.ListN.{length};
 ghost use lib.Seq.{slice};
 ghost use Rattle.text.specs.Result.{ok};
-ghost use Rattle.text.specs.Utf8.{lossy};
 ghost use Rattle.reader.specs.Names.{pieces};
-ghost use Rattle.reader.specs.Stages.Names.{Counted, Skips, HasPiece, HasPieceAt, FirstPiece, HasName, IsName, pieceBytes, InBlob};
+ghost use Rattle.reader.specs.Stages.Names.{Counted, Skips, HasPiece, HasPieceAt, FirstPiece, HasName, IsName, shownPiece, InBlob, IsSize};
 ghost use Rattle.reader.specs.Queries.{nameText};
 ghost use Rattle.reader.specs.Replies.{WritesText};
 
@@ -126,6 +127,21 @@ pub(crate) fn piece_end(blob: &[u8], start: usize, end: usize) -> usize
     i
 }
 
+// So many names are looked at before the triples, or the rows, that may name them are gone over once for all of them.
+pub(crate) const CHUNK: usize = 4096;
+
+// Where the chunk ends that begins at name.
+pub(crate) fn chunk_end(name: usize, names: u32) -> usize
+    requires { ⌜ name ≤ names ⌝ }
+    ensures { λ r. ⌜ (name < r) × (r ≤ name + 4096) × (r ≤ names + 1) ⌝ }
+{
+    let left = names as usize - name;
+    if left < CHUNK {
+        return names as usize + 1;
+    }
+    name + CHUNK
+}
+
 // The bytes of a name that is declared: none for index 0, else piece index.
 pub(crate) fn name_piece(blob: &[u8], end: usize, index: usize) -> Piece
     requires { ⌜ HasName (now blob) end index ⌝ }
@@ -141,9 +157,9 @@ pub(crate) fn name_piece(blob: &[u8], end: usize, index: usize) -> Piece
     }
 }
 
-// The length in bytes of a text that was written, or the refusal.
+// A text that was written: its length in bytes, and how many replacement characters stand in it for ill-formed parts; or the refusal.
 pub enum NameReply {
-    Text(usize),
+    Text { bytes: usize, replaced: usize },
     Error(MatError),
 }
 
@@ -167,12 +183,33 @@ pub fn name(blob: &[u8], index: u32, text: &mut [u8]) -> NameReply
 // The bytes of a piece, repaired, at the start of text.
 pub(crate) fn write_piece(blob: &[u8], piece: Piece, text: &mut [u8]) -> NameReply
     requires { ⌜ InBlob (now blob) piece ⌝ }
-    ensures { λ r. ⌜ WritesText (ok (lossy (pieceBytes (now (blob .entry)) piece))) (now (text .entry)) r (now (text .exit)) ⌝ }
+    ensures { λ r. ⌜ WritesText (ok (shownPiece (now (blob .entry)) piece)) (now (text .entry)) r (now (text .exit)) ⌝ }
 {
     let start = piece.start;
     let end = piece.end;
     match write_lossy(&blob[start..end], text) {
-        LossyReply::Written { bytes, replaced: _ } => NameReply::Text(bytes),
+        LossyReply::Written { bytes, replaced } => NameReply::Text { bytes, replaced },
         LossyReply::TooShort(need) => NameReply::Error(MatError::OutputTooShort(need as u64)),
+    }
+}
+
+// The length of a repaired piece, and how many of its parts are replaced.
+pub(crate) struct PieceSize {
+    pub(crate) bytes: usize,
+    pub(crate) replaced: usize,
+}
+
+pub(crate) fn piece_size(blob: &[u8], piece: Piece) -> PieceSize
+    requires { ⌜ InBlob (now blob) piece ⌝ }
+    ensures { λ r. ⌜ IsSize (now (blob .entry)) piece r ⌝ }
+{
+    let start = piece.start;
+    let end = piece.end;
+    match lossy_length(&blob[start..end]) {
+        LossyLength::Length { bytes, replaced } => PieceSize { bytes, replaced },
+        LossyLength::TooLong => PieceSize {
+            bytes: 0,
+            replaced: 0,
+        },
     }
 }

@@ -5,6 +5,7 @@ use crate::objects::ObjectReply;
 use crate::objects::check_object;
 use crate::objects::read_object;
 use crate::records::Triple;
+use crate::replacements::count_replaced;
 use text::error::MatError;
 use text::reply::Checked;
 use text::reply::LengthReply;
@@ -13,14 +14,16 @@ ghost use mathlib.Core.List.{_++_, map};
 ghost use Prim.Native.Nat.{_≤_, _<_};
 ghost use lib.ListN.{length, drop};
 ghost use Rattle.text.specs.Replies.{checkedOf};
-ghost use Rattle.reader.specs.Objects.{triplesFrom, checkTriple, checkTriples, rowOf, objectTriples};
-ghost use Rattle.reader.specs.Stages.Properties.{TriplesIn, RecordTriples, ReadsTriples};
+ghost use Rattle.reader.specs.Objects.{triplesFrom, checkTriple, checkTriples, rowOf, replacedOf, objectProperties};
+ghost use Rattle.reader.specs.Stages.Properties.{TriplesIn, PassedTriples, RecordTriples, ReadsTriples};
+ghost use Rattle.reader.specs.Stages.Replacements.{noCount};
 ghost use Rattle.reader.specs.Stages.Opening.{Opens};
 ghost use Rattle.reader.specs.Queries.{objectRecord};
 ghost use Rattle.reader.specs.Replies.{WritesRows};
 
-// A property as three numbers: its name index, its type (0 name, 1 heap, 2 inline) and its value.
-pub const ROW_WIDTH: usize = 3;
+// A property as five numbers: its name index, its type (0 name, 1 heap, 2 inline), its value, and how many replacement characters stand in
+// its name, and in its value where that is a name, else 0.
+pub const ROW_WIDTH: usize = 5;
 
 // Checks 11 and 12 for one property.
 fn check_triple(w: FileWrapper, triple: Triple) -> Checked
@@ -104,16 +107,19 @@ pub(crate) fn object_triples(blob: &[u8], object_id: u32) -> TriplesReply
     }
 }
 
+// The row of a triple before its names are counted.
 fn row_of(triple: Triple) -> [u32; ROW_WIDTH]
-    ensures { λ r. ⌜ r ≡ rowOf triple ⌝ }
+    ensures { λ r. ⌜ r ≡ rowOf noCount triple ⌝ }
 {
-    [triple.name_idx, triple.field_type, triple.value]
+    [triple.name_idx, triple.field_type, triple.value, 0, 0]
 }
 
-// A row for each of count triples from byte start on, at the start of rows.
+// Such a row for each of count triples from byte start on, at the start of rows.
 fn put_rows(blob: &[u8], start: usize, count: usize, rows: &mut [[u32; ROW_WIDTH]])
     requires { ⌜ TriplesIn (now blob) start count × (count ≤ length (now rows)) ⌝ }
-    ensures { λ _. ⌜ now (rows .exit) ≡ map rowOf (triplesFrom (now (blob .entry)) start count) ++ drop count (now (rows .entry)) ⌝ }
+    ensures { λ _. ⌜ (
+        let triples = triplesFrom (now (blob .entry)) start count in
+        now (rows .exit) ≡ map (rowOf noCount) triples ++ drop count (now (rows .entry))) ⌝ }
 {
     let mut i: usize = 0;
     while i < count {
@@ -122,16 +128,33 @@ fn put_rows(blob: &[u8], start: usize, count: usize, rows: &mut [[u32; ROW_WIDTH
     }
 }
 
+// The rows of triples that passed their checks, with the counts of their names.
+fn write_rows(
+    blob: &[u8],
+    w: FileWrapper,
+    start: usize,
+    count: usize,
+    rows: &mut [[u32; ROW_WIDTH]],
+)
+    requires { ⌜ PassedTriples (now blob) w start count × (count ≤ length (now rows)) ⌝ }
+    ensures { λ _. ⌜ (
+        let triples = triplesFrom (now (blob .entry)) start count in
+        now (rows .exit) ≡ map (rowOf (replacedOf (now (blob .entry)) w)) triples ++ drop count (now (rows .entry))) ⌝ }
+{
+    put_rows(blob, start, count, rows);
+    count_replaced(blob, w, count, rows);
+}
+
 // The properties of an object, a row for each, at the start of rows.
 pub fn properties(blob: &[u8], object_id: u32, rows: &mut [[u32; ROW_WIDTH]]) -> LengthReply
-    ensures { λ r. ⌜ WritesRows (objectTriples (now (blob .entry)) «object_id») (now (rows .entry)) r (now (rows .exit)) ⌝ }
+    ensures { λ r. ⌜ WritesRows (objectProperties (now (blob .entry)) «object_id») (now (rows .entry)) r (now (rows .exit)) ⌝ }
 {
     match object_triples(blob, object_id) {
-        TriplesReply::Triples { w: _, at, count } => {
+        TriplesReply::Triples { w, at, count } => {
             if rows.len() < count {
                 return LengthReply::Error(MatError::OutputTooShort(count as u64));
             }
-            put_rows(blob, at, count, rows);
+            write_rows(blob, w, at, count, rows);
             LengthReply::Length(count)
         }
         TriplesReply::Error(e) => LengthReply::Error(e),

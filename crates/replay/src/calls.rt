@@ -15,6 +15,7 @@ use reader::listing::list_eight;
 use reader::names::NameReply;
 use reader::opaque::OpaqueReply;
 use reader::opaque::parse_opaque_metadata;
+use reader::properties::ROW_WIDTH;
 use reader::properties::properties;
 use reader::saveobj::StringsReply;
 use reader::saveobj::decode_string_saveobj;
@@ -201,7 +202,7 @@ fn text_of(line: &[u8], owner: Owner) -> Verdict {
         number as u32,
         &mut text[0..length],
     ) {
-        NameReply::Text(count) => render::text(text, count, answer),
+        NameReply::Text { bytes, replaced } => render::shown(text, bytes, replaced, answer),
         NameReply::Error(error) => render::refusal(error, render::is_untouched(text, 0), answer),
     };
     compare(line, 4, answer, n)
@@ -244,7 +245,7 @@ pub fn wordlist(line: &[u8]) -> Verdict {
 // props BLOB id rows-length
 pub fn props(line: &[u8]) -> Verdict {
     let blob: &mut [u8] = &mut io::buffer();
-    let rows: &mut [[u32; 3]] = &mut fields::rows_buffer();
+    let rows: &mut [[u32; ROW_WIDTH]] = &mut fields::rows_buffer();
     let answer: &mut [u8] = &mut io::buffer();
     let Number::Value(bytes) = fields::bytes(fields::field(line, 1), blob) else {
         return Verdict::Unreadable;

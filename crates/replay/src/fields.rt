@@ -1,4 +1,5 @@
 // The fields of a line, with spaces between them, and the numbers in them.
+use reader::properties::ROW_WIDTH;
 use text::reply::LengthReply;
 use writer::string_object::build_string_filewrapper_metadata;
 ghost use mathlib.Core.Path.{_≡_};
@@ -76,10 +77,10 @@ pub fn words_buffer() -> [u64; 4096]
     [0; 4096]
 }
 
-pub fn rows_buffer() -> [[u32; 3]; 512]
+pub fn rows_buffer() -> [[u32; ROW_WIDTH]; 512]
     ensures { λ r. ⌜ 512 ≡ length r ⌝ }
 {
-    [[0; 3]; 512]
+    [[0; ROW_WIDTH]; 512]
 }
 
 // The first n units, none where there are fewer.

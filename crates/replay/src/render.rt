@@ -3,6 +3,7 @@
 use reader::labels::Part;
 use reader::labels::Source;
 use reader::objects::ObjectRow;
+use reader::properties::ROW_WIDTH;
 use text::error::MatError;
 use text::latin9::code_point;
 ghost use Prim.Native.Nat.{_≤_, _<_};
@@ -61,11 +62,11 @@ pub fn are_words_untouched(buffer: &[u64], start: usize) -> bool {
     true
 }
 
-pub fn are_rows_untouched(rows: &[[u32; 3]], start: usize) -> bool {
+pub fn are_rows_untouched(rows: &[[u32; ROW_WIDTH]], start: usize) -> bool {
     let mut i = start;
     while i < rows.len() {
         let row = rows[i];
-        if row[0] != 0 || row[1] != 0 || row[2] != 0 {
+        if row[0] != 0 || row[1] != 0 || row[2] != 0 || row[3] != 0 || row[4] != 0 {
             return false;
         }
         i += 1;
@@ -114,16 +115,27 @@ pub fn text(buffer: &[u8], n: usize, out: &mut [u8]) -> usize {
     word(b" #", out, at)
 }
 
+// The same with the number of its replacement characters.
+pub fn shown(buffer: &[u8], n: usize, replaced: usize, out: &mut [u8]) -> usize {
+    let at = word(b"= ok ", out, 0);
+    let at = bytes(buffer, n, out, at);
+    let at = word(b" ", out, at);
+    let at = decimal(replaced as u64, out, at);
+    word(b" #", out, at)
+}
+
 pub fn payload(buffer: &[u64], n: usize, out: &mut [u8]) -> usize {
     let at = word(b"= ok ", out, 0);
     let at = words(buffer, n, out, at);
     word(b" #", out, at)
 }
 
-fn row(row: [u32; 3], out: &mut [u8], at: usize) -> usize {
+fn row(row: [u32; ROW_WIDTH], out: &mut [u8], at: usize) -> usize {
     let at = two(row[0], row[1], out, at);
     let at = word(b",", out, at);
-    decimal(row[2] as u64, out, at)
+    let at = decimal(row[2] as u64, out, at);
+    let at = word(b",", out, at);
+    two(row[3], row[4], out, at)
 }
 
 // What stands before row i.
@@ -131,7 +143,7 @@ fn mark(i: usize) -> u8 {
     if i == 0 { b' ' } else { b';' }
 }
 
-fn row_list(rows: &[[u32; 3]], out: &mut [u8], at: usize) -> usize {
+fn row_list(rows: &[[u32; ROW_WIDTH]], out: &mut [u8], at: usize) -> usize {
     let mut next = at;
     let mut i = 0;
     while i < rows.len() {
@@ -142,7 +154,7 @@ fn row_list(rows: &[[u32; 3]], out: &mut [u8], at: usize) -> usize {
     next
 }
 
-pub fn rows(rows: &[[u32; 3]], n: usize, out: &mut [u8]) -> usize {
+pub fn rows(rows: &[[u32; ROW_WIDTH]], n: usize, out: &mut [u8]) -> usize {
     if rows.len() < n {
         return word(b"overrun", out, 0);
     }

@@ -15,9 +15,10 @@ use Rattle.writer.specs.Array.{Array, noArray, Accepted, payload, stringWords, 
 use Rattle.writer.specs.FileWrapper.{fileWrapper}
 use Rattle.writer.specs.Spans.{lengthAt, stringsFrom, joined, spansFrom}
 use Rattle.writer.proofs.LayoutLaws.{payload-at}
-use Rattle.reader.specs.Queries.{intoOutput}
+use Rattle.reader.specs.Names.{ShownText}
+use Rattle.reader.specs.Queries.{intoOutput, intoText}
 use Rattle.reader.specs.Saveobj.{decodePayload, decodedArray, isCanonicalPayload, intoStrings}
-use Rattle.reader.proofs.BuiltLaws.{built-class, built-triples, built-name}
+use Rattle.reader.proofs.BuiltLaws.{built-class, built-properties, built-name}
 use Rattle.reader.proofs.ReadBack.{accepted-decodes, canonical-first, canonical-second}
 use Rattle.store.specs.Store.{Store, serialize, cells, storedArrays, every, sameStore, isCanonical}
 use Rattle.store.specs.Model.{ReadsBack}
@@ -132,6 +133,9 @@ accepted-set (x ∷ xs) (suc k) f w (suc i) h = accepted-set xs k (λ j g. f (su
 output-fits : {A : Type 0} (m : Result (List A)) {out : List A} (room : ℕ) → m ≡ ok out → length out ≤ room → intoOutput m room ≡ ok out
 output-fits m {out} room e h = rw e (simp (le-leb (length out) room h))
 
+text-fits : (m : Result ShownText) {t : ShownText} (room : ℕ) → m ≡ ok t → length (t .text) ≤ room → intoText m room ≡ ok t
+text-fits m {t} room e h = rw e (simp (le-leb (length (t .text)) room h))
+
 strings-fit : (m : Result (List (List ℕ))) {ss : List (List ℕ)} (textRoom spanRoom : ℕ) → m ≡ ok ss → length (joined ss) ≤ textRoom → 2 * length ss ≤ spanRoom
     → intoStrings m textRoom spanRoom ≡ ok ss
 strings-fit m {ss} textRoom spanRoom e h k = rw e (simp (le-leb (length (joined ss)) textRoom h, le-leb (2 * length ss) spanRoom k))
@@ -142,9 +146,9 @@ reads-back xs few f id least most =
     let n = length xs in
     let w = f (id - 1) (omega arith) in
     record {
-      class = λ room h. output-fits _ room (built-class n few id least most) h;
-      property = λ room h. output-fits _ room (built-triples n few id least most) h;
-      name = λ room h. output-fits _ room (built-name n few) h;
+      class = λ room h. text-fits _ room (built-class n few id least most) h;
+      property = λ room h. output-fits _ room (built-properties n few id least most) h;
+      name = λ room h. text-fits _ room (built-name n few) h;
       by-metadata = λ metadata e one is textRoom spanRoom h k. strings-fit _ textRoom spanRoom (canonical-first xs few id least most w metadata e one is) h k;
       by-property = λ textRoom spanRoom h k. strings-fit _ textRoom spanRoom (canonical-second xs few id least most w) h k;
     }

@@ -9,9 +9,10 @@ use Rattle.text.specs.Result.{Result, ok, error, check, checkOutput, _>>_, _>>=
 use Rattle.writer.specs.Array.{Array, noArray, arrayOf}
 use Rattle.writer.specs.Spans.{joined}
 use Rattle.reader.specs.Decode.{anyName, stringName, metadataStrings, objectStrings}
-use Rattle.reader.specs.Objects.{objectTriples}
+use Rattle.reader.specs.Names.{soundText}
+use Rattle.reader.specs.Objects.{objectProperties}
 use Rattle.reader.specs.Opaque.{opaqueMetadata}
-use Rattle.reader.specs.Queries.{intoOutput, nameText, objectClassText}
+use Rattle.reader.specs.Queries.{intoOutput, intoText, nameText, objectClassText}
 use Rattle.reader.specs.Saveobj.{intoStrings}
 use Rattle.reader.specs.declared.opaque.OpaqueMetadata.{OpaqueMetadata}
 use Rattle.store.specs.Store.{Store, Lengths, lengthsOf, serialize, counted}
@@ -92,11 +93,9 @@ execute s (e ∷ es) = record {
 -- single property "any" with heap value id − 1", and the strings of array a, "by any accepted word list whose ids are that one id, once, or by
 -- the object's own property"
 pub record ReadsBack (s : Store) (id : ℕ) (a : Array) : Type 0 where
-  pub class : (room : ℕ) → length stringName ≤ room → intoOutput (objectClassText (s .blob) id) room ≡ ok stringName
-  pub property :
-      (room : ℕ) → 1 ≤ room
-      → intoOutput (objectTriples (s .blob) id) room ≡ ok ((record { «name_idx» = 1; «field_type» = 1; value = id - 1 }) ∷ [])
-  pub name : (room : ℕ) → length anyName ≤ room → intoOutput (nameText (s .blob) 1) room ≡ ok anyName
+  pub class : (room : ℕ) → length stringName ≤ room → intoText (objectClassText (s .blob) id) room ≡ ok (soundText stringName)
+  pub property : (room : ℕ) → 1 ≤ room → intoOutput (objectProperties (s .blob) id) room ≡ ok ((1 ∷ 1 ∷ (id - 1) ∷ 0 ∷ 0 ∷ []) ∷ [])
+  pub name : (room : ℕ) → length anyName ≤ room → intoText (nameText (s .blob) 1) room ≡ ok (soundText anyName)
   pub by-metadata :
       (metadata : List ℕ) {m : OpaqueMetadata} → opaqueMetadata metadata ≡ ok m → m .ids ≡ 1 → getD metadata (m .«first_id») 0 ≡ id
       → (textRoom spanRoom : ℕ) → length (joined (a .strings)) ≤ textRoom → 2 * length (a .strings) ≤ spanRoom

@@ -57,7 +57,7 @@ ascii-scalars : (s : List ℕ) → Below 128 s → Scalars s
 ascii-scalars [] p = tt
 ascii-scalars (b ∷ s) p = (record { top = omega (arith, p .0); gap = gap-below b (omega (arith, p .0)) }, ascii-scalars s (p .1))
 
-ascii-well-formed : (s : List ℕ) → Below 128 s → scalars8 s ≡ some s
+pub ascii-well-formed : (s : List ℕ) → Below 128 s → scalars8 s ≡ some s
 ascii-well-formed s p = rw (ascii-utf8s s p) at (scalars8-utf8s s (ascii-scalars s p))
 
 pub ascii-lossy : (s : List ℕ) → Below 128 s → lossy s ≡ s

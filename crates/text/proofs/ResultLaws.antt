@@ -161,3 +161,13 @@ seq-failed (ok a) b {n} e =
     let z : _≡_ {A = ℕ} 0 1 = cc in
     absurd (omega arith)
 seq-failed (error f) b e = cc
+
+-- a failure passes by what is done with the value
+pub bind-failed : {A B C : Type 0} (m : Result A) (f : A → Result B) (g : A → B → Result C) {e : Failure} → (m >>= f) ≡ error e → (m >>= λ a. f a >>= g a) ≡ error e
+bind-failed (ok a) f g h = rw h
+bind-failed (error n) f g {e} h = let z : n ≡ e = cc in ap error z
+
+-- checks before two steps are checks before the first
+pub seq-bind : {A B C : Type 0} (m : Result A) (k : Result B) (f : B → Result C) → (m >> (k >>= f)) ≡ ((m >> k) >>= f)
+seq-bind (ok a) k f = refl
+seq-bind (error e) k f = refl

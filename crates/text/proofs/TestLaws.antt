@@ -1,7 +1,7 @@
 -- Tests, the values that they choose between, and ranges.
 -- Assumes nothing.
 use mathlib.Core.Path.{_≡_, refl, sym, _∙_, ap, subst}
-use mathlib.Core.Bool.{Bool, true, false, cond, _&&_}
+use mathlib.Core.Bool.{Bool, true, false, cond, _&&_, _||_}
 use mathlib.Core.List.{List, [], _∷_}
 use Prim.Native.Nat.{ℕ, zero, suc, _+_, _≤_, _<_}
 use native.Mathlib.Nat.{add-zero, zero-add, add-suc, suc-add, le-of-suc-le-suc, not-suc-le-zero}
@@ -19,6 +19,10 @@ not-both {P} {t} e f =
 pub and-is : (a b : Bool) → (a && b) ≡ true → (a ≡ true) × (b ≡ true)
 and-is true b e = (refl, e)
 and-is false b e = not-both e refl
+
+pub neither : (a b : Bool) → (a || b) ≡ false → (a ≡ false) × (b ≡ false)
+neither true b e = not-both refl e
+neither false b e = (refl, e)
 
 -- what holds of both values that a test chooses between holds of the chosen one
 pub cond-both {ℓ} : {X : Type 0} (P : X → Type ℓ) (t : Bool) (x y : X) → (t ≡ true → P x) → (t ≡ false → P y) → P (cond t x y)

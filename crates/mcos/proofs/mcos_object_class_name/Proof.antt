@@ -1,11 +1,11 @@
 -- `mcos::mcos_object_class_name` meets its contract.
 -- Assumes nothing.
 use borrow.Author.Needs.{needs}
-use Rattle.mcos.proofs.ExportLaws.{told-list}
+use Rattle.mcos.proofs.ExportLaws.{told-text}
 use Rattle.mcos.proofs.mcos_object_class_name.Statement.{statement}
 use Rattle.mcos.proofs.mcos_object_class_name.Tie as tie
 
 pub mcos-object-class-name-spec : {M : Type 1} → statement M
 mcos-object-class-name-spec =
     tie.close
-    (tie.spec (λ c κs. search needs) (λ c κs. search needs) (λ c. search needs) (λ c. search (told-list, needs)))
+    (tie.spec (λ c κs. search needs) (λ c κs. search needs) (λ c. search needs) (λ c. search (told-text, needs)))

@@ -8,26 +8,22 @@ use native.Mathlib.Omega.{arith}
 use borrow.Author.Tests.{le-leb, lt-leb, leb-true, lt-ltb, le-ltb, eq-eqb, ne-eqb}
 use lib.Dec.{leb}
 use lib.ListN.{length, take, drop, set, length-append, length-set}
-use lib.Seq.{length-slice}
 use Rattle.text.specs.Buffer.{put, Puts, Places}
-use Rattle.text.specs.Replies.{lossyLength, checkedOf}
+use Rattle.text.specs.Replies.{checkedOf}
 use Rattle.text.specs.Result.{ok}
 use Rattle.text.specs.Utf8.{lossy}
 use Rattle.text.specs.declared.error.MatError.{MatError}
 use Rattle.text.specs.declared.error.MatError.the-variants.{ClassIdOutOfRange, NameIndexOutOfRange, OutputTooShort}
 use Rattle.text.specs.declared.reply.Checked.{Checked}
 use Rattle.text.specs.declared.reply.Checked.the-variants as checked
-use Rattle.text.specs.declared.utf8.LossyLength.{LossyLength}
-use Rattle.text.specs.declared.utf8.LossyLength.the-variants as measure
 use Rattle.text.proofs.BufferLaws.{put-front, put-more, length-put, places-fits}
 use Rattle.text.proofs.ByteLaws.{stores}
-use Rattle.text.proofs.utf8.Lossy.{length-is, too-long-is}
 use Rattle.text.proofs.ResultLaws.{reply-is, check-passed, check-is}
-use Rattle.text.proofs.Utf8Laws.{lossy-le}
-use Rattle.reader.specs.Stages.Names.{pieceBytes, HasName, IsName, InBlob, IsLength, BothInBlob}
+use Rattle.reader.specs.Names.{ShownText}
+use Rattle.reader.specs.Stages.Names.{pieceBytes, shownPiece, HasName, IsName, InBlob, IsSize, BothInBlob}
 use Rattle.reader.specs.Opening.{opened}
 use Rattle.reader.specs.Stages.Opening.{Opens}
-use Rattle.reader.specs.Queries.{shown, classEntry, shownClass, checkNames, entryText, entryOf, classOf, classText, objectRecord, checkObject, objectClassText}
+use Rattle.reader.specs.Queries.{shown, classEntry, qualified, shownClass, checkNames, entryText, entryOf, classOf, classText, objectRecord, checkObject, objectClassText}
 use Rattle.reader.specs.Replies.{parseReplyOf, WritesText}
 use Rattle.reader.specs.Stages.Classes.{classReplyOf}
 use Rattle.reader.specs.declared.classes.ClassReply.{ClassReply}
@@ -38,80 +34,70 @@ use Rattle.reader.specs.declared.file_wrapper.ParseReply.the-variants as
 use Rattle.reader.specs.declared.names.NameReply.{NameReply}
 use Rattle.reader.specs.declared.names.NameReply.the-variants as name
 use Rattle.reader.specs.declared.names.Piece.{Piece}
+use Rattle.reader.specs.declared.names.PieceSize.{PieceSize}
 use Rattle.reader.specs.declared.records.ClassEntry.{ClassEntry}
 use Rattle.reader.specs.declared.records.ObjectRecord.{ObjectRecord}
 use Rattle.reader.proofs.NameLaws.{parsed, part-slice, refused}
 use Rattle.reader.proofs.objects.Laws.{id-below}
 
--- ---- a piece: its length, and writing it
+-- ---- writing a piece
 
-module _ (b : List ℕ) {p : Piece} (i : InBlob b p) where
-  bytes-are : take (p .end - p .start) (drop (p .start) b) ≡ pieceBytes b p
-  bytes-are = part-slice (p .start) (p .end) b (i .order)
-
-  most : length (lossy (pieceBytes b p)) ≤ 50331648
-  most = omega (arith, lossy-le (pieceBytes b p), length-slice (p .start) (p .end) b (i .inside), i)
-
-  module _ {x : LossyLength} (e : x ≡ lossyLength (take (p .end - p .start) (drop (p .start) b))) where
-    said : x ≡ lossyLength (pieceBytes b p)
-    said = e ∙ ap lossyLength bytes-are
-
-    pub length-piece : {n k : ℕ} → x ≡ measure.Length n k → IsLength b p n
-    length-piece g = let l = length-is (pieceBytes b p) said g in record { is = l .0; most = omega (arith, l, most) }
-
-    pub length-never : x ≡ measure.TooLong → IsLength b p 0
-    length-never g = absurd (omega (arith, too-long-is (pieceBytes b p) said g, most))
-
-  pub piece-puts : {text : List ℕ} {at r : ℕ} {text' : List ℕ} → at + length (lossy (pieceBytes b p)) ≤ length text
-      → Places text at (lossy (take (p .end - p .start) (drop (p .start) b))) r text' → Puts text at (lossy (pieceBytes b p)) r text'
-  piece-puts {text} {at} {r} {text'} h f =
-      places-fits text at (lossy (pieceBytes b p)) h (subst (λ (s : List ℕ). Places text at (lossy s) r text') bytes-are f)
+pub piece-puts : (b : List ℕ) {p : Piece} → InBlob b p → {text : List ℕ} {at r : ℕ} {text' : List ℕ} → at + length (shownPiece b p .text) ≤ length text
+    → Places text at (lossy (take (p .end - p .start) (drop (p .start) b))) r text' → Puts text at (shownPiece b p .text) r text'
+piece-puts b {p} i {text} {at} {r} {text'} h f =
+    places-fits text at (shownPiece b p .text) h (subst (λ (s : List ℕ). Places text at (lossy s) r text') (part-slice (p .start) (p .end) b (i .order)) f)
 
 -- ---- namespace, full stop, name
 
-module _ (b text : List ℕ) (p q : Piece) {n m need : ℕ} (a : IsLength b p n) (c : IsLength b q m) (s : need ≡ n + 1 + m) where
-  abbrev text-of : List ℕ
-  text-of = lossy (pieceBytes b p) ++ 0x2E ∷ lossy (pieceBytes b q)
+module _ (b text : List ℕ) (p q : Piece) {m n : PieceSize} {bytes : ℕ} (a : IsSize b p m) (c : IsSize b q n) (s : bytes ≡ m .bytes + 1 + n .bytes) where
+  abbrev first : List ℕ
+  first = shownPiece b p .text
 
-  size : length text-of ≡ need
-  size = omega (arith, length-append (lossy (pieceBytes b p)) (0x2E ∷ lossy (pieceBytes b q)), a, c)
+  abbrev second : List ℕ
+  second = shownPiece b q .text
 
-  pub joined-short : length text < need → WritesText (ok text-of) text (name.Error (OutputTooShort need)) text
+  abbrev full : ShownText
+  full = qualified (shownPiece b p) (shownPiece b q)
+
+  size : length (full .text) ≡ bytes
+  size = omega (arith, length-append first (0x2E ∷ second), a, c)
+
+  pub joined-short : length text < bytes → WritesText (ok full) text (name.Error (OutputTooShort bytes)) text
   joined-short h =
-      let t : leb (length text-of) (length text) ≡ false = lt-leb (length text-of) (length text) (omega (arith, size)) in
-      let k : min (length text-of) (2 ^ 64 - 1) ≡ need = omega (arith, size, a, c) in
+      let t : leb (length (full .text)) (length text) ≡ false = lt-leb (length (full .text)) (length text) (omega (arith, size)) in
+      let k : min (length (full .text)) (2 ^ 64 - 1) ≡ bytes = omega (arith, size, a, c) in
       record { reply = simp (t, k); buffer = simp t }
 
-  module _ (h : need ≤ length text) where
-    pub joined-first : 0 + length (lossy (pieceBytes b p)) ≤ length text
+  module _ (h : bytes ≤ length text) where
+    pub joined-first : 0 + length first ≤ length text
     joined-first = omega (arith, a)
 
-    module _ {d : List ℕ} {o : ℕ} (f : Puts text 0 (lossy (pieceBytes b p)) o d) where
+    module _ {d : List ℕ} {o : ℕ} (f : Puts text 0 first o d) where
       same : length d ≡ length text
-      same = ap length (f .buffer) ∙ length-put text 0 (lossy (pieceBytes b p)) joined-first
+      same = ap length (f .buffer) ∙ length-put text 0 first joined-first
 
-      pub joined-stop : n < length d
+      pub joined-stop : m .bytes < length d
       joined-stop = omega (arith, same)
 
-      pub joined-second : n + 1 + length (lossy (pieceBytes b q)) ≤ length (set d n 0x2E)
+      pub joined-second : m .bytes + 1 + length second ≤ length (set d (m .bytes) 0x2E)
       joined-second = simp length-set (omega (arith, same, c))
 
-      module _ {d' : List ℕ} {o' : ℕ} (g : Puts (set d n 0x2E) (n + 1) (lossy (pieceBytes b q)) o' d') where
-        all : d' ≡ put text 0 text-of
+      module _ {d' : List ℕ} {o' : ℕ} (g : Puts (set d (m .bytes) 0x2E) (m .bytes + 1) second o' d') where
+        all : d' ≡ put text 0 (full .text)
         all =
-            let x : List ℕ = lossy (pieceBytes b p) in
-            let y : List ℕ = lossy (pieceBytes b q) in
-            let dot : set d n 0x2E ≡ put text 0 (x ++ 0x2E ∷ []) =
-            stores (0x2E ∷ []) d n (omega (arith, joined-stop)) ∙ ap (λ (v : List ℕ). put v n (0x2E ∷ [])) (f .buffer) ∙ put-more text 0 x (0x2E ∷ []) n (omega (arith, a)) (omega arith) in
+            let dot : set d (m .bytes) 0x2E ≡ put text 0 (first ++ 0x2E ∷ []) =
+            stores (0x2E ∷ []) d (m .bytes) (omega (arith, joined-stop))
+            ∙ ap (λ (v : List ℕ). put v (m .bytes) (0x2E ∷ [])) (f .buffer)
+            ∙ put-more text 0 first (0x2E ∷ []) (m .bytes) (omega (arith, a)) (omega arith) in
             g .buffer
-            ∙ ap (λ (v : List ℕ). put v (n + 1) y) dot
-            ∙ put-more text 0 (x ++ 0x2E ∷ []) y (n + 1) (omega (arith, length-append x (0x2E ∷ []), a)) (omega (arith, c))
-            ∙ ap (put text 0) (append-assoc x (0x2E ∷ []) y)
+            ∙ ap (λ (v : List ℕ). put v (m .bytes + 1) second) dot
+            ∙ put-more text 0 (first ++ 0x2E ∷ []) second (m .bytes + 1) (omega (arith, length-append first (0x2E ∷ []), a)) (omega (arith, c))
+            ∙ ap (put text 0) (append-assoc first (0x2E ∷ []) second)
 
-        pub joined-written : WritesText (ok text-of) text (name.Text need) d'
-        joined-written =
-            let t : leb (length text-of) (length text) ≡ true = le-leb (length text-of) (length text) (omega (arith, size)) in
-            record { reply = simp t (ap ok (sym size)); buffer = simp t (all ∙ put-front text text-of) }
+        pub joined-written : {replaced : ℕ} → replaced ≡ m .replaced + n .replaced → WritesText (ok full) text (name.Text bytes replaced) d'
+        joined-written r =
+            let t : leb (length (full .text)) (length text) ≡ true = le-leb (length (full .text)) (length text) (omega (arith, size)) in
+            record { reply = simp t (rw (size, r, a .replaced, c .replaced)); buffer = simp t (all ∙ put-front text (full .text)) }
 
 -- ---- 11 for the names of an entry, and 9
 
@@ -166,15 +152,15 @@ module _ {b : List ℕ} {w : FileWrapper} (o : Opens b w) where
       entry-is = rw (reply-is checkedOf d g)
 
       module _ {p : Piece} (n : IsName b (w .offsets .o0) (e .«name_idx») p) {text text' : List ℕ} {r : NameReply} where
-        pub entry-plain : e .«namespace_idx» ≡ 0 → WritesText (ok (lossy (pieceBytes b p))) text r text' → WritesText (entryText b w e) text r text'
+        pub entry-plain : e .«namespace_idx» ≡ 0 → WritesText (ok (shownPiece b p)) text r text' → WritesText (entryText b w e) text r text'
         entry-plain z t =
             let m : shownClass b w e ≡ shown b w (e .«name_idx») = simp (eq-eqb (e .«namespace_idx») 0 z) in
             rw (entry-is ∙ ap ok m) (rw (n .is) at t)
 
         pub entry-joined : (e .«namespace_idx» ≡ 0 → ⊥) → {q : Piece} → IsName b (w .offsets .o0) (e .«namespace_idx») q
-            → WritesText (ok (lossy (pieceBytes b q) ++ 0x2E ∷ lossy (pieceBytes b p))) text r text' → WritesText (entryText b w e) text r text'
+            → WritesText (ok (qualified (shownPiece b q) (shownPiece b p))) text r text' → WritesText (entryText b w e) text r text'
         entry-joined z q t =
-            let m : shownClass b w e ≡ shown b w (e .«namespace_idx») ++ 0x2E ∷ shown b w (e .«name_idx») = simp (ne-eqb (e .«namespace_idx») 0 z) in
+            let m : shownClass b w e ≡ qualified (shown b w (e .«namespace_idx»)) (shown b w (e .«name_idx»)) = simp (ne-eqb (e .«namespace_idx») 0 z) in
             rw (entry-is ∙ ap ok m) (rw (n .is, q .is) at t)
 
 module _ (b : List ℕ) (w : FileWrapper) (c : ℕ) {x : ClassReply} (d : classReplyOf x ≡ entryOf b w c) where

@@ -8,22 +8,19 @@ use Prim.Native.Nat.{ℕ, zero, suc, _+_, _-_, _*_, _≤_, _<_}
 use native.Mathlib.Omega.{arith}
 use borrow.Author.Tests.{eq-eqb, lt-ltb, le-ltb, le-leb, lt-leb, leb-true, ltb-true, ltb-false}
 use lib.Dec.{leb, ltb}
-use lib.ListN.{length, getD, take, drop, set, length-set}
-use lib.Seq.{getD-set-same, getD-set-other}
+use lib.ListN.{length, getD, take, drop, set}
 use Rattle.text.specs.Buffer.{same}
-use Rattle.text.specs.Result.{Result, ok, error, _>>_, _>>=_}
+use Rattle.text.specs.Result.{Result, ok}
 use Rattle.text.specs.Utf8.{lossy}
-use Rattle.text.specs.declared.error.Failure.{Failure}
 use Rattle.text.specs.declared.error.MatError.{MatError}
-use Rattle.text.proofs.ResultLaws.{reply-is, check-passed, seq-passed}
-use Rattle.text.proofs.TestLaws.{either, equal-or, not-both}
+use Rattle.text.proofs.ResultLaws.{check-passed, seq-passed}
+use Rattle.text.proofs.TestLaws.{either}
 use Rattle.reader.specs.Stages.Names.{heapPieces, FirstPiece, PieceBegins}
 use Rattle.reader.specs.Names.{nameBytes}
-use Rattle.reader.specs.Objects.{triplesFrom, checkTriple, checkTriples, recordTriples, objectTriples, position, isNamed, findProperty}
-use Rattle.reader.specs.Stages.Properties.{TriplesIn, PassedTriples, triplesReplyOf, ReadsTriples}
+use Rattle.reader.specs.Objects.{triplesFrom, checkTriple, checkTriples, position, isNamed, findProperty}
+use Rattle.reader.specs.Stages.Properties.{TriplesIn, PassedTriples, ReadsTriples}
 use Rattle.reader.specs.Stages.Find.{firstIndex, firstOf, isIn, flagged, shownIn, ToNames, ComparesName, FlagsNames, ScansNames}
-use Rattle.reader.specs.Opening.{opened}
-use Rattle.reader.specs.Queries.{shown, checkObject, objectRecord}
+use Rattle.reader.specs.Queries.{shown}
 use Rattle.reader.specs.Replies.{findReplyOf}
 use Rattle.reader.specs.Wire.{tripleAt}
 use Rattle.reader.specs.declared.file_wrapper.FileWrapper.{FileWrapper}
@@ -34,8 +31,9 @@ use Rattle.reader.specs.declared.properties.TriplesReply.{TriplesReply}
 use Rattle.reader.specs.declared.properties.TriplesReply.the-variants as triples
 use Rattle.reader.specs.declared.records.Triple.{Triple}
 use Rattle.reader.proofs.NameLaws.{part-slice}
-use Rattle.reader.proofs.properties.Laws.{length-triples}
+use Rattle.reader.proofs.properties.Laws.{length-triples, query-refused, query-read}
 use Rattle.reader.proofs.names.Pieces.{stand-start, stand-inside, stand-empty, stand-name, stand-next}
+use Rattle.reader.proofs.names.Tables.{table-start, table-turn, table-last, in-range}
 
 -- ---- the first element for which a test holds
 
@@ -167,72 +165,32 @@ or-false : (t : Bool) → t ≡ (t || false)
 or-false true = refl
 or-false false = refl
 
-neither : (s t : Bool) → (s || t) ≡ false → (s ≡ false) × (t ≡ false)
-neither true t e = not-both refl e
-neither false t e = (refl, e)
-
 in-none : {first e : ℕ} → e ≤ first → (y : ℕ) → isIn first e y ≡ false
 in-none {first} {e} h y = either (leb first y) (λ t. simp (t, le-ltb y e (omega (arith, leb-true first y t)))) (λ t. simp t)
 
 module _ {b : List ℕ} {w : FileWrapper} {wanted : List ℕ} {first e start : ℕ} (n : ToNames b w first e start) where
   pub marks-start : {flags : List Bool} → length flags ≡ 4096 → FlagsNames b w wanted first first flags (record { shown = false; next = start })
-  unfolding flagged shownIn
-  marks-start h = record {
-    order = omega arith;
-    size = h;
-    is = λ y. simp (in-none {first = first} {e = first} (omega arith) y);
-    none = λ _. λ y. simp (in-none {first = first} {e = first} (omega arith) y);
-    heap = n .heap;
-  }
+  marks-start h = record { table = table-start h (n .heap) }
 
   module _ {x : ℕ} {flags : List Bool} {s : Bool} {at : ℕ} (k : FlagsNames b w wanted first x flags (record { shown = s; next = at })) where
     pub marks-name : x < e → ToNames b w x (x + 1) at
-    marks-name h = record { opens = n .opens; order = omega arith; size = omega arith; few = omega (arith, n .few); heap = k .heap }
+    marks-name h = record { opens = n .opens; order = omega arith; size = omega arith; few = omega (arith, n .few); heap = k .table .heap }
 
-    module _ (h : x < e) {l : Looked} (o : ComparesName b w wanted x l) where
-      at-last : isIn first (x + 1) x ≡ true
-      at-last = simp (le-leb first x (k .order), lt-ltb x (x + 1) (omega arith))
-
-      before : (y : ℕ) → (y ≡ x → ⊥) → isIn first (x + 1) y ≡ isIn first x y
-      before y z =
-          let t : ltb y (x + 1) ≡ ltb y x =
-          either (ltb y x) (λ e. lt-ltb y (x + 1) (omega (arith, ltb-true y x e)) ∙ sym e) (λ e. le-ltb y (x + 1) (omega (arith, ltb-false y x e)) ∙ sym e) in
-          rw t
-
-      same-flag : (y : ℕ) → (y ≡ x → ⊥) → flagged (set flags (x - first) (l .shown)) first (x + 1) y ≡ flagged flags first x y
-      unfolding flagged
-      same-flag y z =
-          rw (before y z)
-          (either (leb first y)
-          (λ t. let q : y - first ≡ x - first → ⊥ = λ p. z (omega (arith, leb-true first y t, k .order)) in
-          ap (λ (f : Bool). isIn first x y && f) (getD-set-other flags (x - first) (y - first) (l .shown) false q))
-          (λ t. simp t))
-
-      same-shown : (y : ℕ) → (y ≡ x → ⊥) → shownIn b w wanted first (x + 1) y ≡ shownIn b w wanted first x y
-      unfolding shownIn
-      same-shown y z = rw (before y z)
-
-      here-shown : shownIn b w wanted first (x + 1) x ≡ l .shown
-      unfolding shownIn
-      here-shown = rw at-last (sym (o .is))
-
-      here-flag : flagged (set flags (x - first) (l .shown)) first (x + 1) x ≡ l .shown
-      unfolding flagged
-      here-flag = rw at-last (getD-set-same flags (x - first) (l .shown) false (omega (arith, k .order, k .size, n .size)))
-
-      pub marks-turn : FlagsNames b w wanted first (x + 1) (set flags (x - first) (l .shown)) (record { shown = s || l .shown; next = l .next })
-      marks-turn = record {
-        order = omega (arith, k .order);
-        size = length-set flags (x - first) (l .shown) ∙ k .size;
-        is = λ y. equal-or y x (λ z. rw z (here-flag ∙ sym here-shown)) (λ z. same-flag y z ∙ k .is y ∙ sym (same-shown y z));
-        none = λ t. λ y. equal-or y x (λ z. rw z (here-shown ∙ neither s (l .shown) t .1)) (λ z. same-shown y z ∙ k .none (neither s (l .shown) t .0) y);
-        heap = o .heap;
-      }
+    pub marks-turn : x < e → {l : Looked} → ComparesName b w wanted x l
+        → FlagsNames b w wanted first (x + 1) (set flags (x - first) (l .shown)) (record { shown = s || l .shown; next = l .next })
+    marks-turn h {l} o = record { table = table-turn (k .table) (omega (arith, n .size)) (o .is) (l .shown) (λ z. z) (o .heap) }
 
     pub marks-last : x ≤ e → e ≤ x → FlagsNames b w wanted first e flags (record { shown = s; next = at })
-    marks-last h l =
-        let z : x ≡ e = omega arith in
-        rw z at k
+    marks-last h l = record { table = table-last (k .table) h l }
+
+module _ {b : List ℕ} {w : FileWrapper} {wanted : List ℕ} {first e : ℕ} {flags : List Bool} {m : Looked} (k : FlagsNames b w wanted first e flags m) where
+  flags-are : (x : ℕ) → flagged flags first e x ≡ shownIn b w wanted first e x
+  unfolding flagged shownIn
+  flags-are x = in-range first e x (λ h l t. simp (t, k .table .is x h l)) (λ t. simp t)
+
+  flags-none : m .shown ≡ false → (x : ℕ) → shownIn b w wanted first e x ≡ false
+  unfolding shownIn
+  flags-none z x = in-range first e x (λ h l t. simp (t, k .table .none z x h l)) (λ t. simp t)
 
 pub chunk-names : {b : List ℕ} {w : FileWrapper} {k e start : ℕ} → (k < e) × (e ≤ k + 4096) × (e ≤ w .names + 1) → ToNames b w k (k + 1) start → ToNames b w k e start
 chunk-names r n = record { opens = n .opens; order = omega arith; size = r .1; few = r .2; heap = n .heap }
@@ -240,14 +198,14 @@ chunk-names r n = record { opens = n .opens; order = omega arith; size = r .1; f
 module _ {b : List ℕ} {w : FileWrapper} {wanted : List ℕ} {i e : ℕ} {from : Walk} {flags : List Bool} {m : Looked}
     (r : (from .name < e) × (e ≤ from .name + 4096) × (e ≤ w .names + 1)) (k : FlagsNames b w wanted (from .name) e flags m) where
   advances : {best : ℕ} → best ≡ firstOf (shownIn b w wanted (from .name) e) b i (from .best) → ScansNames b w i wanted from (record { name = e; start = m .next; best = best })
-  advances z = record { more = r .0; few = r .2; heap = k .heap; is = z }
+  advances z = record { more = r .0; few = r .2; heap = k .table .heap; is = z }
 
   pub chunk-found : {best : ℕ} → best ≡ firstOf (flagged flags (from .name) e) b i (from .best)
       → ScansNames b w i wanted from (record { name = e; start = m .next; best = best })
-  chunk-found z = advances (z ∙ ap (λ (p : ℕ → Bool). firstOf p b i (from .best)) (fun-ext (k .is)))
+  chunk-found z = advances (z ∙ ap (λ (p : ℕ → Bool). firstOf p b i (from .best)) (fun-ext (flags-are k)))
 
   pub chunk-none : m .shown ≡ false → ScansNames b w i wanted from (record { name = e; start = m .next; best = from .best })
-  chunk-none z = advances (of-none (shownIn b w wanted (from .name) e) (k .none z) b i (from .best))
+  chunk-none z = advances (of-none (shownIn b w wanted (from .name) e) (flags-none k z) b i (from .best))
 
 -- ---- the walk of the name heap
 
@@ -274,7 +232,7 @@ shown-split : (b : List ℕ) (w : FileWrapper) (wanted : List ℕ) (k e : ℕ) �
 unfolding shownIn
 shown-split b w wanted k e h x =
     either (ltb x k)
-    (λ t. let l = ltb-true x k t in simp (t, le-leb 0 x (omega arith), lt-ltb x e (omega arith), lt-leb k x l) (or-false (same (shown b w x) wanted)))
+    (λ t. let l = ltb-true x k t in simp (t, le-leb 0 x (omega arith), lt-ltb x e (omega arith), lt-leb k x l) (or-false (same (shown b w x .text) wanted)))
     (λ t. simp (t, le-leb 0 x (omega arith), le-leb k x (ltb-false x k t)))
 
 module _ {b : List ℕ} {w : FileWrapper} {i n : ℕ} (c : PassedTriples b w i n) {wanted : List ℕ} where
@@ -309,42 +267,22 @@ module _ {b : List ℕ} {w : FileWrapper} {i n : ℕ} (c : PassedTriples b w i n
 
 -- ---- the public call
 
--- a failure passes by what is done with the value
-failed : {A B C : Type 0} (m : Result A) (f : A → Result B) (g : A → B → Result C) {e : Failure} → (m >>= f) ≡ error e → (m >>= λ a. f a >>= g a) ≡ error e
-failed (ok a) f g h = rw h
-failed (error n) f g {e} h = let z : n ≡ e = cc in ap error z
-
--- checks before two steps are checks before the first
-pub seq-bind : {A B C : Type 0} (m : Result A) (k : Result B) (f : B → Result C) → (m >> (k >>= f)) ≡ ((m >> k) >>= f)
-seq-bind (ok a) k f = refl
-seq-bind (error e) k f = refl
-
 module _ (b : List ℕ) (id : ℕ) (wanted : List ℕ) where
-  abbrev shownOf : FileWrapper → List Triple → Result (Option ℕ)
-  shownOf w ts = ok (position (isNamed b w wanted) ts)
-
-  abbrev stages : FileWrapper → Result (List Triple)
-  stages w = checkObject w id >> recordTriples b w (objectRecord b w id)
-
-  find-is : findProperty b id wanted ≡ (opened b >>= λ w. stages w >>= shownOf w)
-  unfolding findProperty
-  find-is = ap (λ (f : FileWrapper → Result (Option ℕ)). opened b >>= f) (fun-ext (λ w. seq-bind (checkObject w id) (recordTriples b w (objectRecord b w id)) (shownOf w)))
+  abbrev positionOf : FileWrapper → List Triple → Result (Option ℕ)
+  positionOf w ts = ok (position (isNamed b w wanted) ts)
 
   module _ {x : TriplesReply} (t : ReadsTriples b id x) where
     pub find-refused : {e : MatError} → x ≡ triples.Error e → findReplyOf (find.Error e) ≡ findProperty b id wanted
-    unfolding objectTriples
-    find-refused g = sym (find-is ∙ failed (opened b) stages shownOf (reply-is (triplesReplyOf b) (t .reply) g))
+    unfolding findProperty
+    find-refused g = sym (query-refused b id positionOf t g)
 
     module _ {w : FileWrapper} {at n : ℕ} (g : x ≡ triples.Triples w at n) where
       pub find-checked : PassedTriples b w at n
       find-checked = rw g at (t .are)
 
-      found : findProperty b id wanted ≡ shownOf w (triplesFrom b at n)
-      unfolding objectTriples
-      found =
-          let o : opened b ≡ ok w = find-checked .opens .is in
-          let s : stages w ≡ ok (triplesFrom b at n) = rw o at (reply-is (triplesReplyOf b) (t .reply) g) in
-          find-is ∙ rw (o, s)
+      found : findProperty b id wanted ≡ positionOf w (triplesFrom b at n)
+      unfolding findProperty
+      found = query-read b id positionOf t g
 
       module _ {r : ℕ} (f : r ≡ firstIndex (isNamed b w wanted) (triplesFrom b at n)) where
         pub find-none : r ≡ n → findReplyOf find.NotFound ≡ findProperty b id wanted

@@ -13,21 +13,21 @@ use lib.ListN.{length, getD, take, drop}
 use lib.Seq.{slice, length-slice, take-take, drop-drop}
 use Rattle.text.specs.Replies.{terminatedLength, lengthOf}
 use Rattle.text.specs.Result.{Result, ok, error}
-use Rattle.text.specs.Utf8.{partsFrom, replacedIn, scalars8, beforeZero}
+use Rattle.text.specs.Utf8.{scalars8, beforeZero}
 use Rattle.text.specs.declared.error.MatError.{MatError}
 use Rattle.text.specs.declared.error.MatError.the-variants.{NameIndexOutOfRange, NameIllFormed}
 use Rattle.text.specs.declared.utf8.TextLength.{TextLength}
 use Rattle.text.specs.declared.utf8.TextLength.the-variants as textLength
-use Rattle.text.proofs.utf8.Lossy.{none-replaced, part-replaced}
+use Rattle.text.proofs.utf8.Lossy.{none-replaced, part-replaced, sound-replaced}
 use Rattle.text.proofs.ResultLaws.{reply-is, same-value, orError-passed, check-passed, seq-passed, bind-passed}
 use Rattle.text.proofs.utf8.Terminated.{terminated-is, terminated-not}
 use Rattle.text.proofs.TestLaws.{either}
 use Rattle.text.proofs.Utf8Laws.{lossy-same, scalars8-empty}
 use Rattle.reader.specs.Labels.{placeholderPart, ownBytes, namePart, checkWellFormed, labelOf, labelReplyOf, bufferOf, IsPart, IsLabel}
-use Rattle.reader.specs.Names.{pieces, heapOf, nameBytes, lengthWithZeros, nameStart}
+use Rattle.reader.specs.Names.{pieces, heapOf, nameBytes, lengthWithZeros, nameStart, soundText}
 use Rattle.reader.specs.Stages.Names.{HasName, HasPieceAt}
 use Rattle.reader.specs.Opening.{opened}
-use Rattle.reader.specs.Queries.{nameText}
+use Rattle.reader.specs.Queries.{shown, nameText}
 use Rattle.reader.specs.Replies.{parseReplyOf}
 use Rattle.reader.specs.declared.file_wrapper.FileWrapper.{FileWrapper}
 use Rattle.reader.specs.declared.file_wrapper.ParseReply.{ParseReply}
@@ -152,12 +152,12 @@ module _ {b placeholder : List ℕ} {i : ℕ} {p : Part} (a : Accepted b placeho
 
 -- ---- the laws of a label
 
--- 35 fails exactly where repairing would replace a part
+-- 35 fails exactly where the name is shown with a replacement character
 module _ (b placeholder : List ℕ) (i : ℕ) {w : FileWrapper} (o : opened b ≡ ok w) (h : i ≤ w .names) where
-  pub label-ill-formed : (replacedIn (partsFrom (ownBytes b w i) 0) ≡ 0 → ⊥) → labelOf b placeholder i ≡ error (record { number = 35; place = i })
+  pub label-ill-formed : (shown b w i .replaced ≡ 0 → ⊥) → labelOf b placeholder i ≡ error (record { number = 35; place = i })
   label-ill-formed n = ill-formed b placeholder i o h (part-replaced (ownBytes b w i) n)
 
-  pub label-well-formed : replacedIn (partsFrom (ownBytes b w i) 0) ≡ 0 → labelOf b placeholder i ≡ ok (namePart b placeholder w i)
+  pub label-well-formed : shown b w i .replaced ≡ 0 → labelOf b placeholder i ≡ ok (namePart b placeholder w i)
   label-well-formed z = well-formed b placeholder i o h (none-replaced (ownBytes b w i) z)
 
   -- an empty name gives the whole placeholder
@@ -172,14 +172,16 @@ unfolding nameBytes
 label-zero b placeholder o = label-empty b placeholder 0 o (omega arith) refl
 
 module _ (b placeholder : List ℕ) (i : ℕ) {p : Part} (e : labelOf b placeholder i ≡ ok p) where
-  -- a part of the blob is the name as it is shown
-  pub label-shown : p .source ≡ source.Blob → nameText b i ≡ ok (take (p .length) (drop (p .start) b))
+  -- a part of the blob is the name as it is shown, with nothing replaced
+  pub label-shown : p .source ≡ source.Blob → nameText b i ≡ ok (soundText (take (p .length) (drop (p .start) b)))
   unfolding nameText
   label-shown s =
       let a = accepted b placeholder i e in
       let t = stored a s in
       let at : take (p .length) (drop (p .start) b) ≡ ownBytes b (a .wrapper) i = ap₂ (λ (n m : ℕ). take n (drop m b)) (t .size) (t .begins) ∙ name-at (named-in a) (t .least) in
-      rw (a .opened-is) (simp (le-leb i (a .wrapper .names) (a .named)) (ap ok (lossy-same (ownBytes b (a .wrapper) i) (a .sound) ∙ sym at)))
+      rw (a .opened-is)
+      (simp (le-leb i (a .wrapper .names) (a .named))
+      (rw (lossy-same (ownBytes b (a .wrapper) i) (a .sound) ∙ sym at, sound-replaced (ownBytes b (a .wrapper) i) (a .sound))))
 
   -- and no other name's, though that may have the same bytes
   pub label-own : (j : ℕ) → labelOf b placeholder j ≡ ok p → p .source ≡ source.Blob → i ≡ j

@@ -28,7 +28,7 @@ length-pieces (x ∷ xs) =
     let l = length-pieces xs in
     either (eqb x 0) (λ e. simp e (omega arith)) (λ e. simp e (rw (length-onto x (pieces xs) (omega arith)) (omega arith)))
 
-pieces-some : (xs : List ℕ) → 1 ≤ length (pieces xs)
+pub pieces-some : (xs : List ℕ) → 1 ≤ length (pieces xs)
 pieces-some xs = omega (arith, length-pieces xs)
 
 pub pieces-zero : (x : ℕ) (xs : List ℕ) → x ≡ 0 → pieces (x ∷ xs) ≡ [] ∷ pieces xs

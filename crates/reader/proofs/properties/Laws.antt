@@ -1,16 +1,17 @@
 -- The outcomes of the queries for an object's properties, and the loops over its triples.
 -- Assumes nothing.
-use mathlib.Core.Path.{_≡_, refl, sym, ap, _∙_, subst}
+use mathlib.Core.Path.{_≡_, refl, sym, ap, _∙_, subst, fun-ext}
 use mathlib.Core.Bool.{true, false}
 use mathlib.Core.List.{List, [], _∷_, _++_, map}
 use Prim.Native.Nat.{ℕ, zero, suc, _+_, _-_, _*_, _^_, _≤_, _<_, min}
 use native.Mathlib.Numerals.{add-one}
 use native.Mathlib.Omega.{arith}
 use borrow.Author.Tests.{le-leb, lt-leb, leb-true, eq-eqb, ne-eqb}
-use lib.Dec.{leb}
+use lib.Dec.{leb, eqb}
 use lib.ListN.{length, drop, set, length-append, length-drop, length-map}
+use Rattle.text.specs.Errors.{failureOf}
 use Rattle.text.specs.Replies.{checkedOf, lengthReplyOf}
-use Rattle.text.specs.Result.{Result, ok, error, mapResult, overwritten}
+use Rattle.text.specs.Result.{Result, ok, error, mapResult, overwritten, _>>_, _>>=_}
 use Rattle.text.specs.declared.error.MatError.{MatError}
 use Rattle.text.specs.declared.error.MatError.the-variants.{NameIndexOutOfRange, UnknownFieldType, OutputTooShort}
 use Rattle.text.specs.declared.reply.Checked.{Checked}
@@ -18,11 +19,12 @@ use Rattle.text.specs.declared.reply.Checked.the-variants as checked
 use Rattle.text.specs.declared.reply.LengthReply.{LengthReply}
 use Rattle.text.specs.declared.reply.LengthReply.the-variants as reply
 use Rattle.text.proofs.BufferLaws.{length-over}
-use Rattle.text.proofs.ResultLaws.{reply-is, seq-passed, seq-failed}
+use Rattle.text.proofs.ResultLaws.{reply-is, seq-passed, seq-failed, bind-failed, seq-bind}
 use Rattle.text.proofs.TestLaws.{either}
-use Rattle.reader.specs.Objects.{checkBlock, objectRow, triplesFrom, triplesOf, checkTriple, checkTriples, recordRow, recordTriples, objectTriples, rowOf}
+use Rattle.reader.specs.Objects.{checkBlock, objectRow, triplesFrom, triplesOf, checkTriple, checkTriples, recordRow, recordTriples, rowOf, replacedOf, recordProperties, objectProperties}
 use Rattle.reader.specs.Stages.Objects.{objectReplyOf, IsBlock, CarriesBlock, ReadsObject}
-use Rattle.reader.specs.Stages.Properties.{TriplesIn, triplesReplyOf, PassedTriples, Triples, RecordTriples, ReadsTriples}
+use Rattle.reader.specs.Stages.Properties.{TriplesIn, triplesReplyOf, PassedTriples, Triples, RecordTriples, objectTriples, ReadsTriples}
+use Rattle.reader.specs.Stages.Replacements.{noCount, CountsRows}
 use Rattle.reader.specs.Opening.{opened}
 use Rattle.reader.specs.Stages.Opening.{Opens}
 use Rattle.reader.specs.Queries.{intoOutput, objectRecord, checkObject}
@@ -173,23 +175,25 @@ unfolding triplesFrom
 length-triples b i zero = refl
 length-triples b i (suc n) = ap suc (length-triples b (i + 12) n)
 
+-- what is written for a triple before its names are counted
+pub bare-row : (t : Triple) → t .«name_idx» ∷ t .«field_type» ∷ t .value ∷ 0 ∷ 0 ∷ [] ≡ rowOf noCount t
+bare-row t = either (eqb (t .«field_type») 0) (λ z. simp z) (λ z. simp z)
+
 abbrev rowsFrom : List ℕ → ℕ → ℕ → List (List ℕ)
-rowsFrom b i n = map rowOf (triplesFrom b i n)
+rowsFrom b i n = map (rowOf noCount) (triplesFrom b i n)
 
 length-rows : (b : List ℕ) (i n : ℕ) → length (rowsFrom b i n) ≡ n
-unfolding triplesFrom
-length-rows b i zero = refl
-length-rows b i (suc n) = ap suc (length-rows b (i + 12) n)
+length-rows b i n = length-map (triplesFrom b i n) (rowOf noCount) ∙ length-triples b i n
 
 -- one row more
 grow : (b : List ℕ) (s i k : ℕ) (rs : List (List ℕ)) → k ≡ s + 12 * i → i < length rs
-    → set (rowsFrom b s i ++ drop i rs) i (rowOf (tripleAt b k)) ≡ rowsFrom b s (suc i) ++ drop (suc i) rs
+    → set (rowsFrom b s i ++ drop i rs) i (rowOf noCount (tripleAt b k)) ≡ rowsFrom b s (suc i) ++ drop (suc i) rs
 unfolding triplesFrom
 grow b s i k [] e h = absurd (omega arith)
 grow b s zero k (r ∷ rs) e h =
     let z : k ≡ s = omega arith in
     rw z
-grow b s (suc i) k (r ∷ rs) e h = ap (λ (l : List (List ℕ)). rowOf (tripleAt b s) ∷ l) (grow b (s + 12) i k rs (omega arith) (omega arith))
+grow b s (suc i) k (r ∷ rs) e h = ap (λ (l : List (List ℕ)). rowOf noCount (tripleAt b s) ∷ l) (grow b (s + 12) i k rs (omega arith) (omega arith))
 
 -- the rows of i triples stand over the front
 pub record Filling (b : List ℕ) (start n : ℕ) (rows₀ rows : List (List ℕ)) (i : ℕ) : Type 0 where
@@ -211,7 +215,7 @@ module _ {b : List ℕ} {start n : ℕ} {rows₀ : List (List ℕ)} (t : Triples
     pub fill-read : i < n → start + 12 * i + 12 ≤ length b
     fill-read h = omega (arith, t .inside)
 
-    pub fill-turn : i < n → {k : Triple} → k ≡ tripleAt b (start + 12 * i) → {r : List ℕ} → r ≡ rowOf k → Filling b start n rows₀ (set rows i r) (i + 1)
+    pub fill-turn : i < n → {k : Triple} → k ≡ tripleAt b (start + 12 * i) → {r : List ℕ} → r ≡ rowOf noCount k → Filling b start n rows₀ (set rows i r) (i + 1)
     fill-turn h {k} e {r} q =
         record {
           bound = omega arith;
@@ -223,47 +227,87 @@ module _ {b : List ℕ} {start n : ℕ} {rows₀ : List (List ℕ)} (t : Triples
         let z : i ≡ n = omega (arith, f .bound) in
         rw z at (f .is)
 
+-- ---- the counts of their names
+
+abbrev countedFrom : List ℕ → FileWrapper → ℕ → ℕ → List (List ℕ)
+countedFrom b w i n = map (rowOf (replacedOf b w)) (triplesFrom b i n)
+
+length-counted : (b : List ℕ) (w : FileWrapper) (i n : ℕ) → length (countedFrom b w i n) ≡ n
+length-counted b w i n = length-map (triplesFrom b i n) (rowOf (replacedOf b w)) ∙ length-triples b i n
+
+pub rows-counted : {b : List ℕ} {w : FileWrapper} {i n : ℕ} → PassedTriples b w i n → (rows : List (List ℕ)) {rows₁ : List (List ℕ)} → rows₁ ≡ rowsFrom b i n ++ drop n rows
+    → {rows' : List (List ℕ)} → CountsRows b w n rows₁ rows' → rows' ≡ countedFrom b w i n ++ drop n rows
+rows-counted {b} {w} {i} {n} c rows e k = k .is (triplesFrom b i n) (drop n rows) (length-triples b i n) (c .checks) e
+
+-- ---- a query of an object's triples, and what it comes to with them
+
+module _ (b : List ℕ) (id : ℕ) {A : Type 0} (of : FileWrapper → List Triple → Result A) where
+  abbrev query : Result A
+  query = opened b >>= λ w. checkObject w id >> (recordTriples b w (objectRecord b w id) >>= of w)
+
+  abbrev stages : FileWrapper → Result (List Triple)
+  stages w = checkObject w id >> recordTriples b w (objectRecord b w id)
+
+  query-is : query ≡ (opened b >>= λ w. stages w >>= of w)
+  query-is = ap (λ (f : FileWrapper → Result A). opened b >>= f) (fun-ext (λ w. seq-bind (checkObject w id) (recordTriples b w (objectRecord b w id)) (of w)))
+
+  module _ {x : TriplesReply} (read : ReadsTriples b id x) where
+    pub query-refused : {f : MatError} → x ≡ triples.Error f → query ≡ error (failureOf f)
+    unfolding objectTriples
+    query-refused g = query-is ∙ bind-failed (opened b) stages of (reply-is (triplesReplyOf b) (read .reply) g)
+
+    pub query-read : {w : FileWrapper} {at n : ℕ} → x ≡ triples.Triples w at n → query ≡ of w (triplesFrom b at n)
+    unfolding objectTriples
+    query-read {w} {at} {n} g =
+        let o : opened b ≡ ok w = subst (Triples b) g (read .are) .opens .is in
+        let s : stages w ≡ ok (triplesFrom b at n) = rw o at (reply-is (triplesReplyOf b) (read .reply) g) in
+        query-is ∙ rw (o, s)
+
 -- ---- the public call
 
 module _ (b : List ℕ) (id : ℕ) {x : TriplesReply} (read : ReadsTriples b id x) where
-  pub rows-refused : (rows : List (List ℕ)) {f : MatError} → x ≡ triples.Error f → WritesRows (objectTriples b id) rows (reply.Error f) rows
-  rows-refused rows g = rw (reply-is (triplesReplyOf b) (read .reply) g) (record { reply = refl; buffer = refl })
+  abbrev countedRows : FileWrapper → List Triple → Result (List (List ℕ))
+  countedRows w ts = ok (map (rowOf (replacedOf b w)) ts)
+
+  pub rows-refused : (rows : List (List ℕ)) {f : MatError} → x ≡ triples.Error f → WritesRows (objectProperties b id) rows (reply.Error f) rows
+  unfolding objectProperties recordProperties
+  rows-refused rows g = rw (query-refused b id countedRows read g) (record { reply = refl; buffer = refl })
 
   module _ {w : FileWrapper} {at n : ℕ} (g : x ≡ triples.Triples w at n) where
     are : PassedTriples b w at n
     are = subst (Triples b) g (read .are)
 
-    pub rows-inside : TriplesIn b at n
-    rows-inside = are .triples
+    pub rows-passed : PassedTriples b w at n
+    rows-passed = are
 
-    come : objectTriples b id ≡ ok (triplesFrom b at n)
-    come = reply-is (triplesReplyOf b) (read .reply) g
+    come : objectProperties b id ≡ ok (countedFrom b w at n)
+    unfolding objectProperties recordProperties
+    come = query-read b id countedRows read g
 
-    pub rows-short : (rows : List (List ℕ)) → length rows < n → WritesRows (objectTriples b id) rows (reply.Error (OutputTooShort n)) rows
+    size : length (countedFrom b w at n) ≡ n
+    size = length-counted b w at n
+
+    pub rows-short : (rows : List (List ℕ)) → length rows < n → WritesRows (objectProperties b id) rows (reply.Error (OutputTooShort n)) rows
     rows-short rows h =
-        let l = length-triples b at n in
-        let t : leb (length (triplesFrom b at n)) (length rows) ≡ false = lt-leb (length (triplesFrom b at n)) (length rows) (omega arith) in
-        let k : min (length (triplesFrom b at n)) (2 ^ 64 - 1) ≡ n = omega (arith, rows-inside) in
+        let t : leb (length (countedFrom b w at n)) (length rows) ≡ false = lt-leb (length (countedFrom b w at n)) (length rows) (omega (arith, size)) in
+        let k : min (length (countedFrom b w at n)) (2 ^ 64 - 1) ≡ n = omega (arith, size, are .triples) in
         rw come (record { reply = simp (t, k); buffer = simp t })
 
-    pub rows-written : {rows rows' : List (List ℕ)} → n ≤ length rows → rows' ≡ rowsFrom b at n ++ drop n rows
-        → WritesRows (objectTriples b id) rows (reply.Length n) rows'
+    pub rows-written : {rows rows' : List (List ℕ)} → n ≤ length rows → rows' ≡ countedFrom b w at n ++ drop n rows
+        → WritesRows (objectProperties b id) rows (reply.Length n) rows'
     rows-written {rows} {rows'} h e =
-        let l = length-triples b at n in
-        let t : leb (length (triplesFrom b at n)) (length rows) ≡ true = le-leb (length (triplesFrom b at n)) (length rows) (omega arith) in
-        rw come (record { reply = simp t (ap ok (sym l)); buffer = simp t (rw (length-rows b at n) e) })
+        let t : leb (length (countedFrom b w at n)) (length rows) ≡ true = le-leb (length (countedFrom b w at n)) (length rows) (omega (arith, size)) in
+        rw come (record { reply = simp t (ap ok (sym size)); buffer = simp t (rw size e) })
 
 -- the rows lie in their output
-rows-same : (m : Result (List Triple)) (rows rows' : List (List ℕ)) → rows' ≡ overwritten (map rowOf) (intoOutput m (length rows)) rows → length rows' ≡ length rows
+rows-same : (m : Result (List (List ℕ))) (rows rows' : List (List ℕ)) → rows' ≡ overwritten (λ x. x) (intoOutput m (length rows)) rows → length rows' ≡ length rows
 rows-same (error f) rows rows' e = ap length e
-rows-same (ok ts) rows rows' e =
-    either (leb (length ts) (length rows))
-    (λ t. let h : length ts ≤ length rows = leb-true (length ts) (length rows) t in
-    let k : length (map rowOf ts) ≡ length ts = length-map ts rowOf in
-    ap length (simp t at e) ∙ length-over (map rowOf ts) rows (omega arith))
+rows-same (ok xs) rows rows' e =
+    either (leb (length xs) (length rows))
+    (λ t. ap length (simp t at e) ∙ length-over xs rows (leb-true (length xs) (length rows) t))
     (λ t. ap length (simp t at e))
 
-pub rows-in-output : {m : Result (List Triple)} {rows rows' : List (List ℕ)} {r : LengthReply} {n : ℕ} → r ≡ reply.Length n → WritesRows m rows r rows' → n ≤ length rows'
+pub rows-in-output : {m : Result (List (List ℕ))} {rows rows' : List (List ℕ)} {r : LengthReply} {n : ℕ} → r ≡ reply.Length n → WritesRows m rows r rows' → n ≤ length rows'
 rows-in-output {m} {rows} {rows'} {n = n} g w =
     let e : ok n ≡ mapResult length (intoOutput m (length rows)) = ap lengthReplyOf (sym g) ∙ w .reply in
     omega (arith, in-output m (length rows) n e, rows-same m rows rows' (w .buffer))

@@ -17,7 +17,7 @@ use Rattle.text.specs.declared.reply.Checked.{Checked}
 use Rattle.text.specs.declared.reply.Checked.the-variants as checked
 use Rattle.text.proofs.BufferLaws.{put-front}
 use Rattle.text.proofs.ByteLaws.{stores}
-use Rattle.text.proofs.ResultLaws.{reply-is}
+use Rattle.text.proofs.ResultLaws.{reply-is, seq-bind}
 use Rattle.text.proofs.TestLaws.{either}
 use Rattle.writer.specs.Spans.{spansFrom}
 use Rattle.writer.proofs.LayoutLaws.{spans-none, spans-cons}
@@ -47,7 +47,7 @@ use Rattle.reader.specs.declared.saveobj.StringsReply.{StringsReply}
 use Rattle.reader.specs.declared.saveobj.StringsReply.the-variants as reply
 use Rattle.reader.specs.declared.string_objects.ChosenReply.{ChosenReply}
 use Rattle.reader.specs.declared.string_objects.ChosenReply.the-variants as chosen
-use Rattle.reader.proofs.find.Laws.{first-le, position-none, position-some, seq-bind}
+use Rattle.reader.proofs.find.Laws.{first-le, position-none, position-some}
 use Rattle.reader.proofs.saveobj.Payload.{outputs-spans, outputs-fit, decode-refused, decode-short, decode-written}
 use Rattle.reader.proofs.properties.Laws.{length-triples}
 

@@ -9,7 +9,7 @@ use lib.ListN.{getD, length}
 use Rattle.text.specs.Buffer.{same}
 use Rattle.reader.specs.Objects.{triplesFrom}
 use Rattle.reader.specs.Queries.{shown}
-use Rattle.reader.specs.Stages.Names.{PieceBegins}
+use Rattle.reader.specs.Stages.Names.{PieceBegins, Tabulates}
 use Rattle.reader.specs.Stages.Opening.{Opens}
 use Rattle.reader.specs.declared.file_wrapper.FileWrapper.{FileWrapper}
 use Rattle.reader.specs.declared.find.Looked.{Looked}
@@ -35,9 +35,9 @@ flagged flags first end x = isIn first end x && getD flags (x - first) false
 
 -- a name index from first up to end whose name is shown as wanted
 unfoldable pub shownIn : List ℕ → FileWrapper → List ℕ → ℕ → ℕ → ℕ → Bool
-shownIn b w wanted first end x = isIn first end x && same (shown b w x) wanted
+shownIn b w wanted first end x = isIn first end x && same (shown b w x .text) wanted
 
--- names first up to end are declared, no more than there are flags, and the first of them begins at start
+-- names first up to end are declared, no more than a chunk has, and the first of them begins at start
 pub record ToNames (b : List ℕ) (w : FileWrapper) (first end start : ℕ) : Type 0 where
   pub opens : Opens b w
   pub order : first ≤ end
@@ -47,16 +47,12 @@ pub record ToNames (b : List ℕ) (w : FileWrapper) (first end start : ℕ) : Ty
 
 -- whether name x is wanted, and where the next one begins
 pub record ComparesName (b : List ℕ) (w : FileWrapper) (wanted : List ℕ) (x : ℕ) (l : Looked) : Type 0 where
-  pub is : l .shown ≡ same (shown b w x) wanted
+  pub is : l .shown ≡ same (shown b w x .text) wanted
   pub heap : PieceBegins b (w .offsets .o0) (x + 1) (l .next)
 
 -- the flags of names first up to end, whether there is one, and where name end begins
 pub record FlagsNames (b : List ℕ) (w : FileWrapper) (wanted : List ℕ) (first end : ℕ) (flags : List Bool) (m : Looked) : Type 0 where
-  pub order : first ≤ end
-  pub size : length flags ≡ 4096
-  pub is : (x : ℕ) → flagged flags first end x ≡ shownIn b w wanted first end x
-  pub none : m .shown ≡ false → (x : ℕ) → shownIn b w wanted first end x ≡ false
-  pub heap : PieceBegins b (w .offsets .o0) end (m .next)
+  pub table : Tabulates b (w .offsets .o0) false (λ x. same (shown b w x .text) wanted) first end flags (m .shown) (m .next)
 
 -- more names have been looked at, and best has moved to the first triple before it that has a wanted one of them
 pub record ScansNames (b : List ℕ) (w : FileWrapper) (i : ℕ) (wanted : List ℕ) (from to : Walk) : Type 0 where

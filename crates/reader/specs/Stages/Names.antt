@@ -1,15 +1,15 @@
 -- What the stages that find a name promise each other.
 -- Assumes nothing.
-use Prim.Native.Nat.{ℕ, _+_, _-_, _≤_}
+use Prim.Native.Nat.{ℕ, _+_, _-_, _≤_, _<_}
 use mathlib.Core.Path.{_≡_}
-use mathlib.Core.Bool.{cond}
+use mathlib.Core.Bool.{Bool, cond, false}
 use mathlib.Core.List.{List, [], _∷_}
 use lib.Dec.{leb, eqb}
-use lib.ListN.{length, drop}
+use lib.ListN.{length, getD, drop}
 use lib.Seq.{slice}
-use Rattle.text.specs.Utf8.{lossy}
-use Rattle.reader.specs.Names.{pieces, nameBytes}
+use Rattle.reader.specs.Names.{ShownText, pieces, nameBytes, shownBytes}
 use Rattle.reader.specs.declared.names.Piece.{Piece}
+use Rattle.reader.specs.declared.names.PieceSize.{PieceSize}
 use Rattle.reader.specs.declared.names.Skipped.{Skipped}
 
 -- the pieces from byte i up to end, none past it
@@ -58,6 +58,14 @@ pub record HasName (b : List ℕ) (end index : ℕ) : Type 0 where
 pub record PieceBegins (b : List ℕ) (end x start : ℕ) : Type 0 where
   pub rest : piecesFrom b end start ≡ drop (x - 1) (heapPieces b end)
 
+-- a walk of names first up to end of a heap: a table of what f gives for each, whether one of these is not empty, and where name end begins
+pub record Tabulates {A : Type 0} (b : List ℕ) (heap-end : ℕ) (empty : A) (f : ℕ → A) (first end : ℕ) (table : List A) (any : Bool) (next : ℕ) : Type 0 where
+  pub order : first ≤ end
+  pub size : length table ≡ 4096
+  pub is : (i : ℕ) → first ≤ i → i < end → getD table (i - first) empty ≡ f i
+  pub none : any ≡ false → (i : ℕ) → first ≤ i → i < end → f i ≡ empty
+  pub heap : PieceBegins b heap-end end next
+
 -- there is piece index, and it begins at i
 pub record HasPieceAt (b : List ℕ) (end index i : ℕ) : Type 0 where
   pub inside : i ≤ end
@@ -79,10 +87,16 @@ pub record InBlob (b : List ℕ) (p : Piece) : Type 0 where
   pub inside : p .end ≤ length b
   pub most : length b ≤ 16777216
 
--- the repaired length of a piece
-pub record IsLength (b : List ℕ) (p : Piece) (n : ℕ) : Type 0 where
-  pub is : n ≡ length (lossy (pieceBytes b p))
-  pub most : n ≤ 50331648
+-- a piece as it is shown
+abbrev pub shownPiece : List ℕ → Piece → ShownText
+shownPiece b p = shownBytes (pieceBytes b p)
+
+-- its size, whose numbers are small enough for any sum of two
+pub record IsSize (b : List ℕ) (p : Piece) (s : PieceSize) : Type 0 where
+  pub bytes : s .bytes ≡ length (shownPiece b p .text)
+  pub most : s .bytes ≤ 50331648
+  pub replaced : s .replaced ≡ shownPiece b p .replaced
+  pub few : s .replaced ≤ 16777216
 
 -- two pieces of a blob
 pub record BothInBlob (b : List ℕ) (p q : Piece) : Type 0 where

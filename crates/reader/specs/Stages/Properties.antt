@@ -5,8 +5,10 @@ use mathlib.Core.Path.{_≡_}
 use mathlib.Core.List.{List}
 use lib.ListN.{length}
 use Rattle.text.specs.Errors.{failureOf}
-use Rattle.text.specs.Result.{Result, ok, error}
-use Rattle.reader.specs.Objects.{triplesFrom, checkTriples, recordTriples, objectTriples}
+use Rattle.text.specs.Result.{Result, ok, error, _>>_, _>>=_}
+use Rattle.reader.specs.Objects.{triplesFrom, checkTriples, recordTriples}
+use Rattle.reader.specs.Opening.{opened}
+use Rattle.reader.specs.Queries.{checkObject, objectRecord}
 use Rattle.reader.specs.Stages.Opening.{Opens}
 use Rattle.reader.specs.declared.file_wrapper.FileWrapper.{FileWrapper}
 use Rattle.reader.specs.declared.properties.TriplesReply.{TriplesReply}
@@ -40,7 +42,14 @@ pub record RecordTriples (b : List ℕ) (w : FileWrapper) (r : ObjectRecord) (x 
   pub reply : triplesReplyOf b x ≡ recordTriples b w r
   pub are : Triples b x
 
--- the triples of an object
+-- the triples of an object by its id: 1–7, 8, 10, then those of each triple
+unfoldable pub objectTriples : List ℕ → ℕ → Result (List Triple)
+objectTriples b id = do
+  w ← opened b
+  checkObject w id
+  recordTriples b w (objectRecord b w id)
+
+-- what reading them replies
 pub record ReadsTriples (b : List ℕ) (id : ℕ) (x : TriplesReply) : Type 0 where
   pub reply : triplesReplyOf b x ≡ objectTriples b id
   pub are : Triples b x

@@ -29,6 +29,7 @@ use Rattle.text.proofs.utf8.Count.{valid-units, valid-place}
 use Rattle.text.proofs.LeadLaws.{ascii}
 use Rattle.text.proofs.PartLaws.{StepsTo, step-reads, step-breaks, step-end, parts-end, parts-scalar, parts-ill-formed, parts-rule}
 use Rattle.text.proofs.ScalarLaws.{scalar-is, is-scalar, utf8s-cons}
+use Rattle.text.proofs.TestLaws.{equal-or}
 use Rattle.text.proofs.Utf8Laws.{step-took, took-size, not-some, spelled, lossy-le}
 
 -- what a step writes: the scalar value w, with k replaced parts
@@ -193,6 +194,17 @@ module _ (s : List ℕ) where
       unfolding repaired flatMap
       write-last g = ends-from d₀ (lossy s) at (t .room) (rw (nothing-left s i e g) at (t .so-far))
 
+-- no more parts are replaced than there are bytes
+replaced-from : (s : List ℕ) → (i : ℕ) → replacedIn (partsFrom s i) ≤ length s - i
+unfolding replacedIn
+replaced-from s =
+    parts-rule s (λ i ps. replacedIn ps ≤ length s - i) (λ i h. omega arith)
+    (λ i v n t go. let a = step-reads s i t .advance in omega (arith, go, a))
+    (λ i n t go. let a = step-breaks s i t .advance in omega (arith, go, a))
+
+pub replaced-le : (s : List ℕ) → replacedIn (partsFrom s 0) ≤ length s
+replaced-le s = omega (arith, replaced-from s 0)
+
 -- a text in which nothing is replaced is its own repaired text
 whole-parts : (ps : List Part) → replacedIn ps ≡ 0 → scalarsOf ps ≡ some (repaired ps)
 unfolding replacedIn scalarsOf repaired
@@ -228,6 +240,9 @@ module _ (s : List ℕ) where
 
   pub part-replaced : (replacedIn (partsFrom s 0) ≡ 0 → ⊥) → scalars8 s ≡ none
   part-replaced n = broken-parts (partsFrom s 0) n
+
+  pub sound-replaced : {vs : List ℕ} → scalars8 s ≡ some vs → replacedIn (partsFrom s 0) ≡ 0
+  sound-replaced e = equal-or (replacedIn (partsFrom s 0)) 0 (λ z. z) (λ n. not-some (sym (part-replaced n) ∙ e))
 
   module _ {x : Validity} (e : validityPlace x ≡ firstIllFormed (partsFrom s 0)) where
     pub valid-scalars : x ≡ validity.WellFormed → scalars8 s ≡ some (repaired (partsFrom s 0))

@@ -1,8 +1,8 @@
 -- `reader::classes::write_joined` meets its contract.
 -- Assumes nothing.
+use borrow.Author.Needs.{needs}
 use Rattle.reader.proofs.NameLaws.{text-same}
 use Rattle.reader.proofs.classes.Laws.{joined-short, joined-second, joined-written}
-use borrow.Author.Needs.{needs}
 use Rattle.reader.proofs.classes.write_joined.Statement.{statement}
 use Rattle.reader.proofs.classes.write_joined.Tie as tie
 
@@ -17,8 +17,9 @@ write-joined-spec =
     tie.close
     (tie.spec
     (λ c κs. search needs)
-    (λ c. search needs)
     (λ c κs. search needs)
+    (λ c. search needs)
+    (λ c. search needs)
     (λ c. search needs)
     (λ c. search (joined-short, needs))
     (λ c κs. search needs)

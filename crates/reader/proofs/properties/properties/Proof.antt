@@ -1,7 +1,7 @@
 -- `reader::properties::properties` meets its contract.
 -- Assumes nothing.
-use Rattle.reader.proofs.properties.Laws.{rows-refused, rows-inside, rows-short, rows-written}
 use borrow.Author.Needs.{needs}
+use Rattle.reader.proofs.properties.Laws.{rows-refused, rows-passed, rows-short, rows-written}
 use Rattle.reader.proofs.properties.properties.Statement.{statement}
 use Rattle.reader.proofs.properties.properties.Tie as tie
 
@@ -12,7 +12,7 @@ properties-spec =
     (λ c κs. search needs)
     (λ c. search needs)
     (λ c. search (rows-short, needs))
-    (λ c κs. search (rows-inside, needs))
+    (λ c κs. search (rows-passed, needs))
     (λ c. search needs)
     (λ c. search needs)
     (λ c. search (rows-written, needs))

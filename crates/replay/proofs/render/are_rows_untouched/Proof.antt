@@ -15,4 +15,19 @@ abbrev μ-loop : tie.MeasureT-loop
 pub are-rows-untouched-spec : {M : Type 1} → statement M
 are-rows-untouched-spec =
     tie.close
-    (tie.spec Inv-loop μ-loop (λ c. search needs) (λ c. search needs) (λ c. search needs) (λ c. search needs) (λ c. search needs) (λ c. search needs) (λ c. search needs) (λ c. search needs) (λ c. search needs) (λ c. search needs) (λ c. search needs))
+    (tie.spec
+    Inv-loop
+    μ-loop
+    (λ c. search needs)
+    (λ c. search needs)
+    (λ c. search needs)
+    (λ c. search needs)
+    (λ c. search needs)
+    (λ c. search needs)
+    (λ c. search needs)
+    (λ c. search needs)
+    (λ c. search needs)
+    (λ c. search needs)
+    (λ c. search needs)
+    (λ c. search needs)
+    (λ c. search needs))
