@@ -23,7 +23,8 @@
  * *place is read in a statement of its own, after the call. Where call and place stand in one
  * expression, as two arguments of printf do, C leaves open which of them comes first:
  *
- *   uint32_t number = mcos_name(blob, blob_len, index, text, text_len, &bytes, &place);
+ *   uint32_t number = mcos_name(blob, blob_len, index, text, text_len,
+ *                               &bytes, &replaced, &place);
  *   if (number != 0)
  *       printf("%" PRIu32 " at %" PRIu64 "\n", number, place);
  *
@@ -106,11 +107,14 @@ typedef struct mcos_file_wrapper {
 enum { MCOS_FIELD_NAME = 0, MCOS_FIELD_HEAP = 1, MCOS_FIELD_INLINE = 2 };
 
 /* A property: the index of its name, its field type, and its value: a name index, a number of
- * the heap, or the value itself. */
+ * the heap, or the value itself. Then how many parts are replaced where its name is shown, and
+ * where its value is, which is 0 unless the field type is MCOS_FIELD_NAME. */
 typedef struct mcos_property {
     uint32_t name_index;
     uint32_t field_type;
     uint32_t value;
+    uint32_t name_replaced;
+    uint32_t value_replaced;
 } mcos_property;
 
 /* An object: its class, the region of its property block (0 saved, 1 normal), the block's id
@@ -212,6 +216,10 @@ uint32_t mcos_build_string_filewrapper_metadata(uint64_t object_count,
 
 /* ---- Reading a metadata blob ----
  *
+ * A name is shown as mcos_write_lossy writes it: U+FFFD for each ill-formed part. So that a damaged
+ * name is not taken for a sound one, the reply tells how many parts were replaced, which is 0 just
+ * where the name is well-formed. A U+FFFD that stands in the file is not counted.
+ *
  * A blob of 0 bytes stands for a file without string objects, one that has no subsystem. It opens
  * with no names, no classes and no objects; 3 to 7 are not put to it. Every class id is then
  * refused by 9 and every object id by 8, and the object listing has no rows. */
@@ -222,13 +230,13 @@ uint32_t mcos_build_string_filewrapper_metadata(uint64_t object_count,
 uint32_t mcos_parse(const uint8_t *blob, uintptr_t blob_len,
                     mcos_file_wrapper *layout, uint64_t *place);
 
-/* The name of an index; index 0 is the empty name. Ill-formed parts are shown as by
- * mcos_write_lossy.
+/* The name of an index; index 0 is the empty name.
  * Checks: 1 to 7, 11, 34 (text).
- * Accepted: the name at the front of text, its length in *bytes. */
+ * Accepted: the name at the front of text, its length in *bytes, and the number of parts that
+ * were replaced in *replaced. */
 uint32_t mcos_name(const uint8_t *blob, uintptr_t blob_len, uint32_t index,
                    uint8_t *text, uintptr_t text_len,
-                   uint64_t *bytes, uint64_t *place);
+                   uint64_t *bytes, uint64_t *replaced, uint64_t *place);
 
 /* The label of a name index: the name's own bytes where they lie in the blob, or the whole
  * placeholder where the name is empty, by index 0 or as it is stored. Nothing is copied, so the
@@ -246,17 +254,18 @@ uint32_t mcos_label(const uint8_t *blob, uintptr_t blob_len,
 /* The name of a class: namespace, full stop, name; the name alone where the namespace's index
  * is 0.
  * Checks: 1 to 7, 9, 11 for the name, 11 for the namespace, 34 (text).
- * Accepted: the name at the front of text, its length in *bytes. */
+ * Accepted: the name at the front of text, its length in *bytes, and the number of parts that
+ * were replaced, in namespace and name together, in *replaced. */
 uint32_t mcos_class_name(const uint8_t *blob, uintptr_t blob_len, uint32_t class_id,
                          uint8_t *text, uintptr_t text_len,
-                         uint64_t *bytes, uint64_t *place);
+                         uint64_t *bytes, uint64_t *replaced, uint64_t *place);
 
 /* The name of an object's class.
  * Checks: 1 to 8, 9, 11 for the name, 11 for the namespace, 34 (text).
- * Accepted: the name at the front of text, its length in *bytes. */
+ * Accepted: as mcos_class_name. */
 uint32_t mcos_object_class_name(const uint8_t *blob, uintptr_t blob_len, uint32_t object_id,
                                 uint8_t *text, uintptr_t text_len,
-                                uint64_t *bytes, uint64_t *place);
+                                uint64_t *bytes, uint64_t *replaced, uint64_t *place);
 
 /* The properties of an object, a row each.
  * Checks: 1 to 8, 10, then for each property 11 for its name, 12, and 11 again where its type

@@ -37,7 +37,8 @@ fn names(judge: &mut Judge, index: u32) {
     let bad = (index != 0).then_some(MatError::NameIndexOutOfRange(index.into()));
     let rust = |values| bad.map_or(accepted(values), Rust::Lacks);
     let what = format!("name {index}");
-    hold(judge, &what, rust(values([0])), &mut |room| {
+    // No bytes, and no replacement characters.
+    hold(judge, &what, rust(values([0, 0])), &mut |room| {
         library::name(BLOB, index, room)
     });
     for placeholder in PLACEHOLDERS {

@@ -6,6 +6,7 @@ use oracle::Refusal;
 use crate::latin9;
 use crate::lent::{Lengths, Lent, Room, Written};
 use crate::library::{Cells, KEPT, Part, Reply, Values, values};
+use crate::repaired;
 use crate::rules::{self, Limit, Rule};
 use crate::surrogates;
 use crate::tally::{Kind, Tally};
@@ -15,6 +16,8 @@ pub enum Rust<'a> {
     /// The values, and what it writes.
     Accepts(Values, Written<'a>),
     Refuses(&'a Refusal),
+    /// It refuses, and so does plain code, with a number and a place.
+    RefusesBy(&'a Refusal, MatError),
     /// It has no form for this input; the refusal is computed by the rule of 01
     /// or 02.
     Lacks(MatError),
@@ -72,11 +75,13 @@ pub enum Fault {
     Latin9(latin9::Wrong),
     /// The reading of a payload is a wrong program's.
     Surrogates(surrogates::Wrong),
+    /// What a query tells of replaced parts is a wrong program's.
+    Repaired(repaired::Wrong),
 }
 
 impl Fault {
     /// All of them.
-    pub const ALL: [Self; 32] = [
+    pub const ALL: [Self; 39] = [
         Self::Value(0),
         Self::Value(1),
         Self::Value(2),
@@ -109,6 +114,13 @@ impl Fault {
         Self::Surrogates(surrogates::Wrong::PastLast),
         Self::Surrogates(surrogates::Wrong::RoomFirst),
         Self::Surrogates(surrogates::Wrong::Halfway),
+        Self::Repaired(repaired::Wrong::Genuine),
+        Self::Repaired(repaired::Wrong::Bytes),
+        Self::Repaired(repaired::Wrong::AnyValue),
+        Self::Repaired(repaired::Wrong::NameAlone),
+        Self::Repaired(repaired::Wrong::Exchanged),
+        Self::Repaired(repaired::Wrong::FirstNames),
+        Self::Repaired(repaired::Wrong::Halfway),
     ];
 
     /// Puts the fault into a reply or its buffers; false if it has no place
@@ -199,9 +211,24 @@ impl Judge {
         rust: Rust<'_>,
         mut call: impl FnMut(Room<'_>) -> Reply,
     ) {
+        self.hold_replies(case, rust, |room| (call(room), false));
+    }
+
+    /// The same for a call that tells whether it put a fault into its reply.
+    pub(crate) fn hold_replies(
+        &mut self,
+        case: &Case<'_>,
+        rust: Rust<'_>,
+        mut call: impl FnMut(Room<'_>) -> (Reply, bool),
+    ) {
         self.faulted = false;
-        let verdict = self.compare(case, &rust, &mut call);
-        self.settle(case, self.faulted, verdict);
+        let mut faulted = false;
+        let verdict = self.compare(case, &rust, &mut |room: Room<'_>| {
+            let (reply, put) = call(room);
+            faulted |= put;
+            reply
+        });
+        self.settle(case, faulted || self.faulted, verdict);
     }
 
     /// Holds one call on an output of so many bytes to plain code: the bytes
@@ -312,6 +339,13 @@ impl Judge {
                     .refused(call)
                     .map_err(|what| format!("{what}; {refusal}"))?;
                 agreed(case, refusal, error).ok_or_else(|| format!("{error}; {refusal}"))
+            }
+            Rust::RefusesBy(refusal, expected) => {
+                let error = self
+                    .refused(call)
+                    .map_err(|what| format!("{what}; {refusal}; expected {expected}"))?;
+                let agreement = agreed(case, refusal, error).filter(|_| error == expected);
+                agreement.ok_or_else(|| format!("{error}; {refusal}; expected {expected}"))
             }
             Rust::Lacks(expected) => {
                 let error = self.refused(call)?;

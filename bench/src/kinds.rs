@@ -3,7 +3,7 @@
 use std::fmt::LowerHex;
 use std::panic::{AssertUnwindSafe, catch_unwind};
 
-use mcos::{MatError, ObjectRow, Property};
+use mcos::{MatError, ObjectRow};
 use oracle::{Answer, Cell, Refusal};
 
 use crate::empty;
@@ -13,6 +13,7 @@ use crate::judge::{Case, Judge, Rust};
 use crate::labels;
 use crate::lent::{Room, Written};
 use crate::library::{self, Array, Reply, Values, values};
+use crate::repaired::{self, Given, Query, Sides};
 use crate::rules::Limit;
 use crate::tally::Kind;
 
@@ -94,8 +95,7 @@ pub fn utf16(judge: &mut Judge, units: &[u16]) {
 /// library's chunks do.
 pub fn lossy(judge: &mut Judge, bytes: &[u8]) {
     let text = oracle::from_utf8_lossy(bytes);
-    let ill_formed = |chunk: &std::str::Utf8Chunk<'_>| !chunk.invalid().is_empty();
-    let replaced = bytes.utf8_chunks().filter(ill_formed).count();
+    let replaced = repaired::replaced(bytes);
     let written = Written {
         text: text.as_bytes(),
         ..Written::default()
@@ -254,31 +254,31 @@ pub fn blob(judge: &mut Judge, blob: &[u8]) {
     if blob.is_empty() {
         return empty::blob(judge, ids(0));
     }
-    let opened = asked(|| oracle::open(blob));
-    open(judge, blob, &opened);
-    listing(judge, blob, &opened);
-    labels::of_blob(judge, blob, &opened);
-    match &opened {
+    let sides = Sides::open(blob);
+    open(judge, blob, &sides.rust);
+    listing(judge, blob, &sides.rust);
+    labels::of_blob(judge, blob, &sides.rust);
+    match &sides.rust {
         Ok(store) => {
             let [names, classes, records, ..] = store.counts();
             for index in ids(names + 1) {
-                name(judge, blob, index, &asked(|| store.name(index)));
+                sides.ask(judge, Query::Name(index));
             }
             for id in ids(classes) {
-                class(judge, blob, id, &asked(|| store.class_name(id)));
+                sides.ask(judge, Query::Class(id));
             }
             for id in ids(records) {
-                object_class(judge, blob, id, &asked(|| store.class(id)));
-                properties(judge, blob, id, &asked(|| store.properties(id)));
+                sides.ask(judge, Query::ObjectClass(id));
+                properties(judge, &sides, id, &asked(|| store.properties(id)));
             }
         }
         // Each query puts the checks of opening for itself.
         Err(refusal) => {
             let id = 1;
-            name(judge, blob, id, &Err(refusal.clone()));
-            class(judge, blob, id, &Err(refusal.clone()));
-            object_class(judge, blob, id, &Err(refusal.clone()));
-            properties(judge, blob, id, &Err(refusal.clone()));
+            sides.ask(judge, Query::Name(id));
+            sides.ask(judge, Query::Class(id));
+            sides.ask(judge, Query::ObjectClass(id));
+            properties(judge, &sides, id, &Err(refusal.clone()));
         }
     }
 }
@@ -390,66 +390,33 @@ fn object_rows(blob: &[u8], store: &oracle::Store) -> Result<Vec<ObjectRow>, Mat
     (1..records).map(object).collect()
 }
 
-fn name(judge: &mut Judge, blob: &[u8], index: u32, answer: &Answer<String>) {
-    query(
-        judge,
-        Kind::Name,
-        blob,
-        index,
-        text_of(answer),
-        &mut |room| library::name(blob, index, room),
-    );
-}
-
-fn class(judge: &mut Judge, blob: &[u8], id: u32, answer: &Answer<String>) {
-    query(judge, Kind::Class, blob, id, text_of(answer), &mut |room| {
-        library::class_name(blob, id, room)
-    });
-}
-
-fn object_class(judge: &mut Judge, blob: &[u8], id: u32, answer: &Answer<String>) {
-    let rust = text_of(answer);
-    query(judge, Kind::ObjectClass, blob, id, rust, &mut |room| {
-        library::object_class_name(blob, id, room)
-    });
-}
-
 /// The properties' rows, then the names that they lead to, then finding.
-fn properties(judge: &mut Judge, blob: &[u8], id: u32, answer: &Answer<Vec<oracle::Property>>) {
-    let rows: Vec<Property> = answer.iter().flatten().map(row).collect();
-    let rust = match answer {
-        Ok(_) => {
-            let written = Written {
-                rows: &rows,
-                ..Written::default()
-            };
-            Rust::Accepts(values([rows.len() as u64]), written)
-        }
-        Err(refusal) => Rust::Refuses(refusal),
+fn properties(
+    judge: &mut Judge,
+    sides: &Sides<'_>,
+    id: u32,
+    answer: &Answer<Vec<oracle::Property>>,
+) {
+    let given = match answer {
+        Ok(props) => Ok(repaired::triples(props)),
+        Err(refusal) => Err(refusal.clone()),
     };
-    query(judge, Kind::Properties, blob, id, rust, &mut |room| {
-        library::properties(blob, id, room)
-    });
+    sides.hold(judge, Query::Properties(id), &given);
+    let mut name = |index, text: &str| {
+        let given = Ok(Given::Text(text.to_owned()));
+        sides.hold(judge, Query::Name(index), &given);
+    };
     for property in answer.iter().flatten() {
         let [index, _, value] = property.row;
-        name(judge, blob, index, &Ok(property.name.clone()));
+        name(index, &property.name);
         if let Some(text) = &property.value_name {
-            name(judge, blob, value, &Ok(text.clone()));
+            name(value, text);
         }
     }
-    find(judge, blob, id, b"any", answer);
+    find(judge, sides.blob, id, b"any", answer);
     let last = answer.as_ref().ok().and_then(|props| props.last());
     let wanted = last.map_or(&b""[..], |property| property.name.as_bytes());
-    find(judge, blob, id, wanted, answer);
-}
-
-fn row(property: &oracle::Property) -> Property {
-    let [name_index, field_type, value] = property.row;
-    Property {
-        name_index,
-        field_type,
-        value,
-    }
+    find(judge, sides.blob, id, wanted, answer);
 }
 
 /// The Rust has no such call; its callers look through the properties.

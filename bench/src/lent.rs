@@ -68,6 +68,16 @@ pub struct Room<'a> {
 }
 
 impl Room<'_> {
+    /// The same buffers, lent to one call and then to another.
+    pub fn again(&mut self) -> Room<'_> {
+        Room {
+            text: self.text,
+            words: self.words,
+            rows: self.rows,
+            objects: self.objects,
+        }
+    }
+
     pub fn lengths(&self) -> Lengths {
         Lengths {
             text: self.text.len(),
@@ -113,6 +123,8 @@ impl Default for Lent {
             name_index: x as u32,
             field_type: (x >> 20) as u32,
             value: (x >> 32) as u32,
+            name_replaced: (x >> 12) as u32,
+            value_replaced: (x >> 28) as u32,
         };
         let object = |x: u64| ObjectRow {
             class_id: x as u32,

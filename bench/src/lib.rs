@@ -12,6 +12,7 @@ pub mod latin9;
 pub mod lent;
 pub mod library;
 pub mod payload;
+pub mod repaired;
 pub mod rng;
 pub mod rules;
 pub mod run;

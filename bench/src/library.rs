@@ -1,7 +1,7 @@
 //! The library's calls in one form: the safe one of the bindings, and beside it
 //! the C interface, whose cells show what was kept.
 
-use mcos::{Buffers, Cells as Store, Counts, FileWrapper, Label, MatError, Source, ffi};
+use mcos::{Buffers, Cells as Store, Counts, FileWrapper, Label, Lossy, MatError, Source, ffi};
 
 use crate::edited::Edit;
 use crate::lent::Room;
@@ -91,11 +91,15 @@ pub fn decode_utf16(units: &[u16], room: Room<'_>) -> Reply {
     }
 }
 
+/// The bytes of a text, and the parts that were replaced.
+fn lossy(Lossy { bytes, replaced }: Lossy) -> Values {
+    values([bytes as u64, replaced as u64])
+}
+
 pub fn write_lossy(s: &[u8], room: Room<'_>) -> Reply {
     let out = room.text;
     Reply {
-        answer: mcos::write_lossy(s, out)
-            .map(|lossy| values([lossy.bytes as u64, lossy.replaced as u64])),
+        answer: mcos::write_lossy(s, out).map(lossy),
         cells: Cells::of(|cell, place| unsafe {
             ffi::mcos_write_lossy(
                 s.as_ptr(),
@@ -250,13 +254,22 @@ pub fn parse(blob: &[u8]) -> Reply {
 }
 
 /// The safe and the C form of a call that writes a name.
-type SafeName = fn(&[u8], u32, &mut [u8]) -> Result<usize, MatError>;
-type CName = unsafe extern "C" fn(*const u8, usize, u32, *mut u8, usize, *mut u64, *mut u64) -> u32;
+type SafeName = fn(&[u8], u32, &mut [u8]) -> Result<Lossy, MatError>;
+type CName = unsafe extern "C" fn(
+    *const u8,
+    usize,
+    u32,
+    *mut u8,
+    usize,
+    *mut u64,
+    *mut u64,
+    *mut u64,
+) -> u32;
 
 fn named((safe, c): (SafeName, CName), blob: &[u8], number: u32, room: Room<'_>) -> Reply {
     let text = room.text;
     Reply {
-        answer: safe(blob, number, text).map(|n| values([n as u64])),
+        answer: safe(blob, number, text).map(lossy),
         cells: Cells::of(|cell, place| unsafe {
             c(
                 blob.as_ptr(),
@@ -265,6 +278,7 @@ fn named((safe, c): (SafeName, CName), blob: &[u8], number: u32, room: Room<'_>)
                 text.as_mut_ptr(),
                 text.len(),
                 cell,
+                cell.add(1),
                 place,
             )
         }),

@@ -3,6 +3,7 @@
 mod edits;
 mod labels;
 mod latin9;
+mod repaired;
 mod surrogates;
 
 use crate::empty;
@@ -39,6 +40,8 @@ pub fn exhaustive(judge: &mut Judge, share: Share) {
     short_arrays(judge, share);
     labels::short_names(judge, share);
     labels::short_heaps(judge, share);
+    repaired::short_names(judge, share);
+    repaired::short_heaps(judge, share);
     edits::short_lists(judge, share);
     edits::spoilt_stores(judge, share);
     for n in shared(0..=300, share) {
@@ -189,6 +192,7 @@ fn short_arrays(judge: &mut Judge, share: Share) {
 pub fn known(judge: &mut Judge) {
     latin9::known(judge);
     surrogates::known(judge);
+    repaired::known(judge);
     let header = |names| blobs::header(names, &[40; 8], &[]);
     kinds::blob(judge, &[]);
     for names in [0, 1, 2, 1 << 20, (1 << 20) + 1, u32::MAX] {
@@ -243,6 +247,7 @@ pub fn known(judge: &mut Judge) {
 pub fn limits(judge: &mut Judge) {
     latin9::long(judge);
     surrogates::long(judge);
+    repaired::long(judge);
     for objects in [
         349_521,
         349_522,
@@ -321,6 +326,7 @@ pub fn round(judge: &mut Judge, rng: &mut Rng) {
     kinds::blob(judge, &blob);
     empty::blob(judge, [rng.bits() as u32].into_iter());
     labels::round(judge, rng);
+    repaired::round(judge, rng);
     for _ in 0..3 {
         let mut payload = payloads::payload(rng);
         kinds::payload(judge, &payload);

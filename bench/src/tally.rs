@@ -132,6 +132,8 @@ pub struct Count {
     pub refused: [u64; NUMBERS],
     pub explained: BTreeMap<Rule, Seen>,
     pub unexplained: Seen,
+    /// Cases whose reply tells of parts that were replaced.
+    pub repaired: u64,
     /// Cases that a fault was put into, to see that it is reported.
     pub faults: u64,
 }
@@ -144,6 +146,7 @@ impl Default for Count {
             refused: [0; NUMBERS],
             explained: BTreeMap::new(),
             unexplained: Seen::none(),
+            repaired: 0,
             faults: 0,
         }
     }
@@ -188,6 +191,7 @@ impl Tally {
             mine.cases += count.cases;
             mine.accepted += count.accepted;
             add(&mut mine.refused, count.refused);
+            mine.repaired += count.repaired;
             mine.faults += count.faults;
             for (rule, seen) in count.explained {
                 let mine = mine.explained.entry(rule).or_insert_with(Seen::none);
@@ -226,6 +230,10 @@ impl fmt::Display for Tally {
             let refused = by_check(refused);
             writeln!(f, "\nAgreed refused{group}, by check: {refused}")?;
         }
+        let repaired = self.counts.iter().filter(|(_, count)| count.repaired > 0);
+        let repaired = repaired.map(|(kind, count)| format!("{kind}: {}", count.repaired));
+        let repaired: Vec<String> = repaired.collect();
+        writeln!(f, "\nTold of replaced parts: {}", repaired.join(", "))?;
         let differences = |(kind, count): (&Kind, &Count)| {
             let kind = *kind;
             let rules = count.explained.clone().into_iter();

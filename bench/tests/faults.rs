@@ -3,6 +3,7 @@
 
 use bench::judge::{Fault, Judge};
 use bench::latin9::Wrong;
+use bench::repaired;
 use bench::rng::Rng;
 use bench::run;
 use bench::tally::Kind;
@@ -14,6 +15,20 @@ const SURROGATES: [Kind; 3] = [
     Kind::SurrogateSecondRoad,
 ];
 
+/// The queries that tell of replaced parts.
+const REPAIRED: [Kind; 4] = [Kind::Name, Kind::Class, Kind::ObjectClass, Kind::Properties];
+
+/// Which of them a wrong program for replaced parts answers otherwise.
+fn answered_otherwise(wrong: repaired::Wrong) -> [bool; 4] {
+    match wrong {
+        repaired::Wrong::Genuine | repaired::Wrong::Bytes | repaired::Wrong::Halfway => [true; 4],
+        repaired::Wrong::NameAlone => [false, true, true, false],
+        repaired::Wrong::AnyValue | repaired::Wrong::Exchanged | repaired::Wrong::FirstNames => {
+            [false, false, false, true]
+        }
+    }
+}
+
 #[test]
 fn every_fault_is_reported() {
     for fault in Fault::ALL {
@@ -22,7 +37,11 @@ fn every_fault_is_reported() {
         let edits = put(Kind::Append) || put(Kind::Replace);
         let (exports, imports) = (put(Kind::Export), put(Kind::Import));
         let surrogates = SURROGATES.map(put);
-        if let Fault::Surrogates(_) = fault {
+        let repaired = REPAIRED.map(put);
+        if let Fault::Repaired(wrong) = fault {
+            let expected = answered_otherwise(wrong);
+            assert_eq!(repaired, expected, "{fault:?} in {REPAIRED:?}");
+        } else if let Fault::Surrogates(_) = fault {
             assert_eq!(surrogates, [true; 3], "{fault:?} in payloads");
         } else if let Fault::Latin9(wrong) = fault {
             assert!(exports, "{fault:?} in no export");
@@ -50,6 +69,10 @@ fn every_fault_is_reported() {
             // They have two values.
             let expected = expected || fault == Fault::Value(1);
             assert_eq!(surrogates, [expected; 3], "{fault:?} in payloads");
+            // So have texts; rows have their number.
+            let rows = expected && fault != Fault::Value(1);
+            let expected = [expected, expected, expected, rows];
+            assert_eq!(repaired, expected, "{fault:?} in {REPAIRED:?}");
         }
         let mut faults = 0;
         for (kind, count) in tally.counts {
@@ -81,8 +104,16 @@ fn no_fault_is_no_report() {
     for number in [6, 8, 9, 11, 13, 16, 21, 28, 30, 35] {
         assert!(explained(number), "{number} is not seen");
     }
+    for kind in REPAIRED {
+        let count = &judge.tally.counts[&kind];
+        assert!(count.repaired > 0, "{kind}: none is repaired");
+    }
     for (kind, numbers) in [
-        (Kind::Export, &[30, 34, 36][..]),
+        (Kind::Name, &[2, 3, 5, 6, 11][..]),
+        (Kind::Class, &[2, 3, 5, 6, 9, 11]),
+        (Kind::ObjectClass, &[2, 3, 5, 6, 8, 11]),
+        (Kind::Properties, &[2, 3, 5, 6, 8, 10, 11, 12]),
+        (Kind::Export, &[30, 34, 36]),
         (Kind::Import, &[34]),
         (Kind::SurrogatePayload, &[27, 28, 29]),
         (Kind::SurrogateFirstRoad, &[27, 28, 29]),

@@ -204,20 +204,20 @@ static void blob_calls(void)
 
     uint8_t text[8];
     KEEP(text), fresh();
-    CHECK(refused(mcos_name(blob, 240, 3, text, 8, &a, &place), 11, 3));
-    CHECK(refused(mcos_class_name(blob, 240, 2, text, 8, &a, &place), 9, 2));
-    CHECK(refused(mcos_object_class_name(blob, 240, 3, text, 8, &a, &place), 8, 3));
-    CHECK(refused(mcos_name(blob, 240, 1, text, 2, &a, &place), 34, 3));
+    CHECK(refused(mcos_name(blob, 240, 3, text, 8, &a, &b, &place), 11, 3));
+    CHECK(refused(mcos_class_name(blob, 240, 2, text, 8, &a, &b, &place), 9, 2));
+    CHECK(refused(mcos_object_class_name(blob, 240, 3, text, 8, &a, &b, &place), 8, 3));
+    CHECK(refused(mcos_name(blob, 240, 1, text, 2, &a, &b, &place), 34, 3));
     CHECK(IS_KEPT(text));
     fresh();
-    CHECK(accepted(mcos_name(blob, 240, 1, text, 8, &a, &place)));
-    CHECK(a == 3 && memcmp(text, "any", 3) == 0 && kept(text + 3, 5));
+    CHECK(accepted(mcos_name(blob, 240, 1, text, 8, &a, &b, &place)));
+    CHECK(a == 3 && b == 0 && memcmp(text, "any", 3) == 0 && kept(text + 3, 5));
     fresh();
-    CHECK(accepted(mcos_class_name(blob, 240, 1, text, 6, &a, &place)));
-    CHECK(a == 6 && memcmp(text, "string", 6) == 0);
+    CHECK(accepted(mcos_class_name(blob, 240, 1, text, 6, &a, &b, &place)));
+    CHECK(a == 6 && b == 0 && memcmp(text, "string", 6) == 0);
     KEEP(text), fresh();
-    CHECK(accepted(mcos_object_class_name(blob, 240, 2, text, 6, &a, &place)));
-    CHECK(a == 6 && memcmp(text, "string", 6) == 0);
+    CHECK(accepted(mcos_object_class_name(blob, 240, 2, text, 6, &a, &b, &place)));
+    CHECK(a == 6 && b == 0 && memcmp(text, "string", 6) == 0);
 
     mcos_property rows[2];
     KEEP(rows), fresh();
@@ -227,6 +227,7 @@ static void blob_calls(void)
     fresh();
     CHECK(accepted(mcos_properties(blob, 240, 2, rows, 2, &a, &place)) && a == 1);
     CHECK(rows[0].name_index == 1 && rows[0].field_type == MCOS_FIELD_HEAP && rows[0].value == 1);
+    CHECK(rows[0].name_replaced == 0 && rows[0].value_replaced == 0);
     CHECK(IS_KEPT(rows[1]));
 
     uint32_t found;
@@ -283,6 +284,255 @@ static void label_calls(void)
     CHECK(accepted(mcos_label(named, 56, none, 2, 2, &part, &place)) && is_part(part, MCOS_SOURCE_PLACEHOLDER, 0, 2));
     KEEP(part), fresh();
     CHECK(accepted(mcos_label(named, 56, none, 0, 2, &part, &place)) && is_part(part, MCOS_SOURCE_PLACEHOLDER, 0, 0));
+}
+
+/* A blob that is made here, and its length. */
+static uint8_t made[100000];
+static size_t made_len;
+
+static void put(const void *bytes, size_t n)
+{
+    memcpy(made + made_len, bytes, n);
+    made_len += n;
+}
+
+static void put_words(const uint32_t *words, size_t n)
+{
+    put(words, 4 * n);
+}
+
+/* Makes a blob of names, each with its zero byte, of which so many are declared; with a class for each pair of namespace
+ * and name, from class 1 on; and with an object of each of them, of which object 1 has these properties. */
+static void make(const char *const *names, uint32_t pieces, uint32_t declared, const uint32_t (*classes)[2],
+                 uint32_t class_count, const uint32_t (*triples)[3], uint32_t triple_count)
+{
+    const uint32_t none = 0;
+    uint32_t header[10] = {4, declared};
+    memset(made, 0, sizeof made);
+    made_len = 40;
+    for (uint32_t i = 0; i < pieces; i++)
+        put(names[i], strlen(names[i]) + 1);
+    header[2] = (uint32_t)made_len;
+    made_len += 16;
+    for (uint32_t i = 0; i < class_count; i++) {
+        put_words(classes[i], 2);
+        made_len += 8;
+    }
+    header[3] = (uint32_t)made_len;
+    /* Block 0 is no object's. Each ends at a multiple of 8 from the blob's start. */
+    put_words(&none, 1);
+    made_len = (made_len + 7) / 8 * 8;
+    put_words(&triple_count, 1);
+    if (triple_count > 0)
+        put_words(triples[0], 3 * (size_t)triple_count);
+    made_len = (made_len + 7) / 8 * 8;
+    header[4] = (uint32_t)made_len;
+    made_len += 24;
+    for (uint32_t id = 1; id <= class_count; id++) {
+        const uint32_t record[6] = {id, 0, 0, id == 1, 0, 0};
+        put_words(record, 6);
+    }
+    for (int i = 5; i < 10; i++)
+        header[i] = (uint32_t)made_len;
+    memcpy(made, header, sizeof header);
+}
+
+typedef uint32_t (*name_call)(const uint8_t *, uintptr_t, uint32_t, uint8_t *, uintptr_t, uint64_t *, uint64_t *, uint64_t *);
+
+/* A call on the blob that is made gives this text, with so many parts replaced: with room to spare, exactly full and one
+ * short. */
+static void shows(name_call call, uint32_t number, const char *shown, uint64_t replaced)
+{
+    const size_t n = strlen(shown);
+    uint8_t text[40];
+    KEEP(text), fresh();
+    CHECK(accepted(call(made, made_len, number, text, sizeof text, &a, &b, &place)) && a == n && b == replaced);
+    CHECK(memcmp(text, shown, n) == 0 && kept(text + n, sizeof text - n));
+    KEEP(text), fresh();
+    CHECK(accepted(call(made, made_len, number, text, n, &a, &b, &place)) && a == n && b == replaced);
+    CHECK(memcmp(text, shown, n) == 0 && kept(text + n, sizeof text - n));
+    if (n > 0) {
+        KEEP(text), fresh();
+        CHECK(refused(call(made, made_len, number, text, n - 1, &a, &b, &place), 34, n) && IS_KEPT(text));
+    }
+}
+
+/* Whether a row has the numbers of its triple, and these counts. */
+static int is_row(const mcos_property *row, const uint32_t triple[3], uint32_t name_replaced, uint32_t value_replaced)
+{
+    return row->name_index == triple[0] && row->field_type == triple[1] && row->value == triple[2]
+        && row->name_replaced == name_replaced && row->value_replaced == value_replaced;
+}
+
+#define LENGTH(list) (sizeof(list) / sizeof(list)[0])
+
+/* How many parts were replaced, in names, in classes and in the rows of properties. */
+static void repaired_calls(void)
+{
+    static const struct {
+        const char *stored, *shown;
+        uint64_t replaced;
+    } names[] = {
+        {"", "", 0},
+        {"any", "any", 0},
+        {"\xC3\xA9\xE2\x82\xAC", "\xC3\xA9\xE2\x82\xAC", 0},
+        /* A genuine U+FFFD: alone, cut, and beside parts that are replaced. */
+        {"\xEF\xBF\xBD", "\xEF\xBF\xBD", 0},
+        {"\xEF\xBF", "\xEF\xBF\xBD", 1},
+        {"\xEF\xBF\xBD\xFF\xEF\xBF\xBD", "\xEF\xBF\xBD\xEF\xBF\xBD\xEF\xBF\xBD", 1},
+        {"\xFF", "\xEF\xBF\xBD", 1},
+        {"\xF4\x80\x80", "\xEF\xBF\xBD", 1},
+        {"\xE0\x80", "\xEF\xBF\xBD\xEF\xBF\xBD", 2},
+        {"\xED\xA0\x80", "\xEF\xBF\xBD\xEF\xBF\xBD\xEF\xBF\xBD", 3},
+        {"a\xFF" "b\xE2\x82" "c\xF0\x9F", "a\xEF\xBF\xBD" "b\xEF\xBF\xBD" "c\xEF\xBF\xBD", 3},
+    };
+    const char *stored[LENGTH(names)];
+    const uint32_t count = LENGTH(names);
+    for (uint32_t i = 0; i < count; i++)
+        stored[i] = names[i].stored;
+    make(stored, count, count, NULL, 0, NULL, 0);
+    shows(mcos_name, 0, "", 0);
+    for (uint32_t i = 0; i < count; i++)
+        shows(mcos_name, i + 1, names[i].shown, names[i].replaced);
+
+    /* A class has the sum: both are damaged, one of them, none; no namespace; the same name twice; no name. */
+    static const char *const four[] = {"p\xFF", "\xE0\x80", "Q", "\xEF\xBF\xBD"};
+    static const uint32_t pairs[][2] = {{1, 2}, {1, 3}, {3, 2}, {3, 4}, {0, 2}, {0, 4}, {2, 2}, {2, 0}};
+    static const struct {
+        const char *shown;
+        uint64_t replaced;
+    } classes[] = {
+        {"p\xEF\xBF\xBD.\xEF\xBF\xBD\xEF\xBF\xBD", 3},
+        {"p\xEF\xBF\xBD.Q", 1},
+        {"Q.\xEF\xBF\xBD\xEF\xBF\xBD", 2},
+        {"Q.\xEF\xBF\xBD", 0},
+        {"\xEF\xBF\xBD\xEF\xBF\xBD", 2},
+        {"\xEF\xBF\xBD", 0},
+        {"\xEF\xBF\xBD\xEF\xBF\xBD.\xEF\xBF\xBD\xEF\xBF\xBD", 4},
+        {"\xEF\xBF\xBD\xEF\xBF\xBD.", 2},
+    };
+    /* The value of the heap and the one itself are the index of a damaged name, too. */
+    static const uint32_t triples[][3] = {{1, 0, 2}, {2, 0, 1}, {1, 1, 2}, {2, 2, 1}, {3, 1, 1}, {3, 2, 2},
+                                          {3, 0, 2}, {4, 0, 4}, {0, 0, 1}, {1, 0, 0}, {2, 1, 5}, {2, 2, UINT32_MAX}};
+    static const uint32_t counts_of[][2] = {{1, 2}, {2, 1}, {1, 0}, {2, 0}, {0, 0}, {0, 0},
+                                            {0, 2}, {0, 0}, {0, 1}, {1, 0}, {2, 0}, {2, 0}};
+    const uint32_t n = LENGTH(triples);
+    make(four, 4, 4, pairs, LENGTH(pairs), triples, n);
+    for (uint32_t id = 1; id <= LENGTH(classes); id++) {
+        shows(mcos_class_name, id, classes[id - 1].shown, classes[id - 1].replaced);
+        shows(mcos_object_class_name, id, classes[id - 1].shown, classes[id - 1].replaced);
+    }
+    mcos_property rows[LENGTH(triples) + 1];
+    KEEP(rows), fresh();
+    CHECK(refused(mcos_properties(made, made_len, 1, rows, 0, &a, &place), 34, n));
+    CHECK(refused(mcos_properties(made, made_len, 1, rows, n - 1, &a, &place), 34, n));
+    CHECK(IS_KEPT(rows));
+    fresh();
+    CHECK(accepted(mcos_properties(made, made_len, 1, rows, n + 1, &a, &place)) && a == n && IS_KEPT(rows[n]));
+    for (uint32_t i = 0; i < n; i++)
+        CHECK(is_row(&rows[i], triples[i], counts_of[i][0], counts_of[i][1]));
+
+    /* Finding is by what is shown. */
+    uint32_t found;
+    fresh();
+    CHECK(accepted(mcos_find_property(made, made_len, 1, (const uint8_t *)"\xEF\xBF\xBD", 3, &found, &a, &place)));
+    CHECK(found == 1 && a == 7);
+
+    /* An object without a block, and one whose block is empty. */
+    KEEP(rows), fresh();
+    CHECK(accepted(mcos_properties(made, made_len, 2, rows, n + 1, &a, &place)) && a == 0 && IS_KEPT(rows));
+    make(four, 4, 4, pairs, 1, NULL, 0);
+    fresh();
+    CHECK(accepted(mcos_properties(made, made_len, 1, rows, n + 1, &a, &place)) && a == 0 && IS_KEPT(rows));
+
+    /* Refusals tell of no count, though there are damaged names before. */
+    static const uint32_t bad[][2][3] = {{{1, 0, 2}, {5, 0, 1}}, {{1, 0, 2}, {2, 3, 1}}, {{1, 0, 2}, {2, 0, 5}}};
+    static const uint32_t refusals[][2] = {{11, 5}, {12, 3}, {11, 5}};
+    for (size_t i = 0; i < LENGTH(bad); i++) {
+        make(four, 4, 4, pairs, 1, bad[i], 2);
+        for (uintptr_t room = 0; room <= 3; room++) {
+            fresh();
+            CHECK(refused(mcos_properties(made, made_len, 1, rows, room, &a, &place), refusals[i][0], refusals[i][1]));
+        }
+        CHECK(IS_KEPT(rows));
+    }
+    static const uint32_t nowhere[][2] = {{1, 5}, {5, 2}};
+    uint8_t text[40];
+    make(four, 4, 4, nowhere, 2, NULL, 0);
+    KEEP(text), fresh();
+    for (uint32_t id = 1; id <= 2; id++) {
+        CHECK(refused(mcos_class_name(made, made_len, id, text, 40, &a, &b, &place), 11, 5));
+        CHECK(refused(mcos_object_class_name(made, made_len, id, text, 40, &a, &b, &place), 11, 5));
+    }
+    CHECK(refused(mcos_name(made, made_len, 5, text, 40, &a, &b, &place), 11, 5));
+    CHECK(IS_KEPT(text));
+
+    /* Names 3 and 4 are not declared, and no others are damaged. */
+    static const char *const sound[] = {"a", "\xEF\xBF\xBD", "\xFF", "\xE0\x80"};
+    static const uint32_t of_sound[][3] = {{1, 0, 2}, {2, 1, 3}, {0, 2, 4}}, both[][2] = {{1, 2}};
+    make(sound, 4, 2, both, 1, of_sound, 3);
+    shows(mcos_name, 1, "a", 0);
+    shows(mcos_name, 2, "\xEF\xBF\xBD", 0);
+    shows(mcos_class_name, 1, "a.\xEF\xBF\xBD", 0);
+    fresh();
+    CHECK(refused(mcos_name(made, made_len, 3, text, 40, &a, &b, &place), 11, 3) && IS_KEPT(text));
+    fresh();
+    CHECK(accepted(mcos_properties(made, made_len, 1, rows, 3, &a, &place)) && a == 3);
+    for (int i = 0; i < 3; i++)
+        CHECK(is_row(&rows[i], of_sound[i], 0, 0));
+}
+
+/* Indices on both sides of 4,096 and 8,192, and how many parts are replaced in each name. */
+static const uint32_t around[] = {1, 2, 4094, 4095, 4096, 4097, 4098, 8191, 8192, 8193, 8194};
+static const uint32_t parts_of[] = {1, 0, 0, 2, 3, 1, 0, 0, 2, 1, 0};
+
+/* More names than the library walks at once, 4,096: damaged ones on both sides, as names and as values, in any order. */
+static void many_names(void)
+{
+    /* By the number of parts. */
+    static const char *const stored[] = {"xy", "\xFF", "b\xE0\x80", "\xED\xA0\x80"};
+    static const char *const shown[] = {"xy", "\xEF\xBF\xBD", "b\xEF\xBF\xBD\xEF\xBF\xBD",
+                                        "\xEF\xBF\xBD\xEF\xBF\xBD\xEF\xBF\xBD"};
+    static const char *names[8200];
+    static uint32_t triples[6 * LENGTH(around) * LENGTH(around)][3];
+    static mcos_property rows[LENGTH(triples) + 1];
+    static const uint32_t last[][2] = {{4096, 8193}};
+    const size_t k = LENGTH(around), n = LENGTH(triples);
+    for (size_t i = 0; i < LENGTH(names); i++)
+        names[i] = i % 3 == 0 ? "\xEF\xBF\xBD" : stored[0];
+    for (size_t i = 0; i < k; i++)
+        names[around[i] - 1] = stored[parts_of[i]];
+    /* Each pair in each type, the names falling; then the same again with the names rising. */
+    for (size_t i = 0; i < n; i++) {
+        const size_t pair = i / 3 % (k * k), name = pair / k;
+        triples[i][0] = around[i < n / 2 ? k - 1 - name : name];
+        triples[i][1] = (uint32_t)(i % 3);
+        triples[i][2] = around[pair % k];
+    }
+    /* With the last ones declared or not; then the same with sound names alone. */
+    for (int sound = 0; sound < 2; sound++) {
+        if (sound)
+            for (size_t i = 0; i < k; i++)
+                names[around[i] - 1] = stored[0];
+        for (uint32_t declared = 8194; declared <= 8200; declared += 6) {
+            make(names, LENGTH(names), declared, last, 1, (const uint32_t(*)[3])triples, (uint32_t)n);
+            KEEP(rows), fresh();
+            CHECK(refused(mcos_properties(made, made_len, 1, rows, n - 1, &a, &place), 34, n) && IS_KEPT(rows));
+            fresh();
+            CHECK(accepted(mcos_properties(made, made_len, 1, rows, n + 1, &a, &place)) && a == n && IS_KEPT(rows[n]));
+            for (size_t i = 0; i < n; i++) {
+                const size_t pair = i / 3 % (k * k), name = i < n / 2 ? k - 1 - pair / k : pair / k;
+                const uint32_t of_name = sound ? 0 : parts_of[name], of_value = sound ? 0 : parts_of[pair % k];
+                CHECK(is_row(&rows[i], triples[i], of_name, triples[i][1] == MCOS_FIELD_NAME ? of_value : 0));
+            }
+            for (size_t i = 0; i < k; i++) {
+                const uint32_t parts = sound ? 0 : parts_of[i];
+                shows(mcos_name, around[i], shown[parts], parts);
+            }
+            shows(mcos_object_class_name, 1, sound ? "xy.xy" : "\xEF\xBF\xBD\xEF\xBF\xBD\xEF\xBF\xBD.\xEF\xBF\xBD",
+                  sound ? 0 : 4);
+        }
+    }
 }
 
 static void listing_calls(void)
@@ -530,12 +780,12 @@ static void empty_blob_calls(void)
 
     uint8_t text[2];
     KEEP(text), fresh();
-    CHECK(accepted(mcos_name(empty, 0, 0, text, 0, &a, &place)) && a == 0);
+    CHECK(accepted(mcos_name(empty, 0, 0, text, 0, &a, &b, &place)) && a == 0 && b == 0);
     fresh();
-    CHECK(refused(mcos_name(empty, 0, 1, text, 2, &a, &place), 11, 1));
-    CHECK(refused(mcos_class_name(empty, 0, 0, text, 2, &a, &place), 9, 0));
-    CHECK(refused(mcos_object_class_name(empty, 0, 0, text, 2, &a, &place), 8, 0));
-    CHECK(refused(mcos_object_class_name(empty, 0, 1, text, 2, &a, &place), 8, 1));
+    CHECK(refused(mcos_name(empty, 0, 1, text, 2, &a, &b, &place), 11, 1));
+    CHECK(refused(mcos_class_name(empty, 0, 0, text, 2, &a, &b, &place), 9, 0));
+    CHECK(refused(mcos_object_class_name(empty, 0, 0, text, 2, &a, &b, &place), 8, 0));
+    CHECK(refused(mcos_object_class_name(empty, 0, 1, text, 2, &a, &b, &place), 8, 1));
     CHECK(IS_KEPT(text));
 
     mcos_property properties[1];
@@ -582,6 +832,8 @@ int main(void)
     writing_calls();
     blob_calls();
     label_calls();
+    repaired_calls();
+    many_names();
     listing_calls();
     string_calls();
     surrogate_calls();

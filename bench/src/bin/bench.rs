@@ -28,6 +28,7 @@ fn main() {
     listing();
     names();
     objects();
+    many_properties();
     payloads();
     word_lists();
     building();
@@ -246,6 +247,45 @@ fn objects() {
             black_box(store.properties(id)).expect("properties");
         },
     );
+}
+
+/// The properties of an object that has very many, each with a name of its own,
+/// and every third with another one as its value. All names are sound.
+fn many_properties() {
+    const PROPERTIES: u32 = 20_000;
+    // 8 to 12 bytes.
+    let name = |i: u32| format!("chan{i:0width$}", width = 4 + i as usize % 5).into_bytes();
+    let triple = |i: u32| match i % 3 {
+        0 => [i, Property::NAME, 1 + (i * 7_919) % PROPERTIES],
+        1 => [i, Property::HEAP, i],
+        _ => [i, Property::INLINE, i],
+    };
+    let plan = Plan {
+        names: (1..=PROPERTIES).map(name).collect(),
+        zeros: 1,
+        declared: PROPERTIES,
+        classes: vec![[0; 4]],
+        saved: vec![vec![], (1..=PROPERTIES).map(triple).collect()],
+        objects: vec![[0; 6], [0, 0, 0, 1, 0, 0]],
+        ..Plan::default()
+    };
+    let blob = plan.blob();
+    let mut rows = vec![Property::default(); PROPERTIES as usize];
+    let mut library = || {
+        let count = black_box(mcos::properties(black_box(&blob), 1, &mut rows));
+        assert_eq!(count, Ok(PROPERTIES as usize));
+    };
+    let open = || oracle::open(black_box(&blob)).expect("a good blob");
+    let ask = |store: &oracle::Store| {
+        black_box(store.properties(1)).expect("properties");
+    };
+    let what = "20,000 properties of one object, over 20,000 names";
+    let times = best(&mut library, &mut || ask(&open()));
+    row(&format!("{what}; each side opens"), times, stand_in(&blob));
+    let opened = open();
+    time(&format!("{what}; the Rust has opened"), library, || {
+        ask(&opened)
+    });
 }
 
 fn payloads() {

@@ -240,3 +240,153 @@ pub fn heap(declared: u32, heap: &[u8]) -> Vec<u8> {
     offsets[0] = end;
     header(declared, &offsets, &[heap, &[0xBF; 3]].concat())
 }
+
+/// A blob of a name and a damaged one after it, each as a namespace, as the name
+/// of a class, and as the name and the value of a property. There are three
+/// classes, and an object of class 1.
+pub fn beside_damaged(name: &[u8]) -> Vec<u8> {
+    Plan {
+        names: vec![name.to_vec(), b"\xE0\x80".to_vec()],
+        declared: 2,
+        classes: vec![[0, 1, 0, 0], [1, 2, 0, 0], [2, 1, 0, 0]],
+        saved: vec![vec![], vec![[1, 0, 2], [2, 0, 1], [1, 1, 1], [0, 2, 1]]],
+        objects: vec![[0; 6], [1, 0, 0, 1, 0, 0]],
+        ..Plan::default()
+    }
+    .blob()
+}
+
+/// A blob of a heap with so many names declared, and each of them in every
+/// place: all pairs of indices as namespace and name of a class, and as name and
+/// value of a property in all types. Object 1 has these properties, object 2 the
+/// same from the last on, object 3 a name that is not declared; so have the
+/// last two classes.
+pub fn referring(declared: u32, heap: &[u8]) -> Vec<u8> {
+    let pairs = || (0..=declared).flat_map(|a| (0..=declared).map(move |b| [a, b]));
+    let next = declared + 1;
+    let classes = pairs().chain([[next, 0], [0, next]]);
+    let classes: Vec<_> = classes.map(|[a, b]| [a, b, 0, 0]).collect();
+    let triples = pairs().flat_map(|[a, b]| (0..3).map(move |field| [a, field, b]));
+    let triples: Vec<Triple> = triples.collect();
+    let falling = triples.iter().rev().copied().collect();
+    let last = classes.len() as u32 - 1;
+    Plan {
+        names: vec![heap.to_vec()],
+        declared,
+        classes,
+        saved: vec![vec![], triples, vec![[next, 1, 0]]],
+        objects: vec![
+            [0; 6],
+            [last - 2, 0, 0, 1, 0, 0],
+            [last / 2, 0, 0, 0, 1, 0],
+            [last, 0, 0, 2, 0, 0],
+        ],
+        normal: vec![vec![], falling],
+        ..Plan::default()
+    }
+    .blob()
+}
+
+/// Up to a dozen names, many of them damaged, in many places.
+pub fn naming_plan(rng: &mut Rng) -> Plan {
+    let names: Vec<Vec<u8>> = (0..1 + rng.below(12)).map(|_| text::name(rng)).collect();
+    let declared = match rng.below(12) {
+        0 => rng.below(names.len() + 1),
+        _ => names.len(),
+    };
+    let class = |rng: &mut Rng| {
+        let namespace = if rng.once_in(4) {
+            0
+        } else {
+            rng.id(declared + 1)
+        };
+        [namespace, rng.id(declared + 1), 0, 0]
+    };
+    let classes: Vec<_> = (0..1 + rng.below(6)).map(|_| class(rng)).collect();
+    let triple = |rng: &mut Rng| {
+        // Not past the names, so that most rows are given.
+        let mut index = || rng.below(declared + 1) as u32;
+        let (name, value) = (index(), index());
+        [name, rng.below(3) as u32, value]
+    };
+    let mut block = || -> Vec<Triple> { (0..rng.below(20)).map(|_| triple(rng)).collect() };
+    let (saved, normal) = (vec![vec![], block()], vec![vec![], block()]);
+    let records = 2 + rng.below(3);
+    let object = |_| {
+        let (saved, normal) = (rng.below(2) as u32, rng.below(2) as u32);
+        [rng.id(classes.len()), 0, 0, saved, normal, 0]
+    };
+    let objects = (0..records).map(object).collect();
+    Plan {
+        names,
+        zeros: rng.below(3),
+        declared: declared as u32,
+        classes,
+        saved,
+        objects,
+        normal,
+        rest: 0,
+    }
+}
+
+/// As many names as the library walks at once.
+pub const AT_ONCE: usize = 4_096;
+
+/// An index among the first, or on either side of a multiple of [`AT_ONCE`].
+fn border(rng: &mut Rng, names: usize) -> u32 {
+    let multiple = AT_ONCE * rng.below(1 + names / AT_ONCE);
+    (multiple + rng.below(6)).saturating_sub(2).min(names) as u32
+}
+
+/// More names than the library walks at once, damaged ones on both sides of
+/// each border, and properties that lead there in no order.
+pub fn many_names(rng: &mut Rng) -> Plan {
+    let count = AT_ONCE * (1 + rng.below(3)) + rng.below(6) - 2;
+    let name = |i: usize| match (i + 3) % AT_ONCE {
+        0..6 => text::name(rng),
+        _ if rng.once_in(400) => text::name(rng),
+        _ => b"n".to_vec(),
+    };
+    let names: Vec<Vec<u8>> = (1..=count).map(name).collect();
+    let mut index = || match rng.below(4) {
+        0 => rng.below(count + 1) as u32,
+        _ => border(rng, count),
+    };
+    let classes = (0..8).map(|_| [index(), index(), 0, 0]).collect();
+    let triples = (0..60).map(|i| [index(), i % 3, index()]).collect();
+    Plan {
+        names,
+        declared: count as u32,
+        classes,
+        saved: vec![vec![], triples],
+        objects: vec![[0; 6], [3, 0, 0, 1, 0, 0]],
+        ..Plan::default()
+    }
+}
+
+/// So many names of one byte, of which the last of each `step` is ill-formed,
+/// and an object with so many properties, which lead to them in no order, every
+/// second time to an ill-formed one.
+pub fn byte_names(names: usize, step: usize, properties: usize) -> Vec<u8> {
+    let name = |i: usize| [if i.is_multiple_of(step) { 0xFF } else { b'n' }, 0];
+    let mut heap: Vec<u8> = (1..=names).flat_map(name).collect();
+    heap.pop();
+    let index = |i: usize, factor: usize| {
+        let any = 1 + i * factor % names;
+        let index = match i % 2 {
+            0 => any,
+            _ => any.next_multiple_of(step).min(names),
+        };
+        index as u32
+    };
+    let triple = |i: usize| [index(i, 7_919), i as u32 % 3, index(i, 104_729)];
+    Plan {
+        names: vec![heap],
+        declared: names as u32,
+        classes: vec![[1, names as u32, 0, 0]],
+        saved: vec![vec![], (0..properties).map(triple).collect()],
+        objects: vec![[0; 6], [0, 0, 0, 1, 0, 0]],
+        ..Plan::default()
+    }
+    .blob()
+}

@@ -9,7 +9,7 @@ use crate::rng::Rng;
 
 /// Names to make heaps of: empty, sound, and ill-formed in every way. A heap
 /// has some of them more than once.
-const NAMES: [&[u8]; 18] = [
+pub(super) const NAMES: [&[u8]; 18] = [
     b"",
     b"a",
     b"pkg",
@@ -94,12 +94,12 @@ fn labels_of(judge: &mut Judge, blob: &[u8]) {
     labels::of_blob(judge, blob, &opened);
 }
 
-fn pieces(heap: &[u8]) -> u32 {
+pub(super) fn pieces(heap: &[u8]) -> u32 {
     1 + heap.iter().filter(|&&byte| byte == 0).count() as u32
 }
 
 /// Up to 200 characters, with a byte changed once in two times.
-fn long_name(rng: &mut Rng) -> Vec<u8> {
+pub(super) fn long_name(rng: &mut Rng) -> Vec<u8> {
     let mut name = Vec::new();
     let ascii = rng.once_in(2);
     for _ in 0..1 + rng.below(200) {

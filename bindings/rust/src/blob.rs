@@ -1,7 +1,7 @@
 //! Metadata blobs: names, classes, objects and properties.
 
 use crate::error::answer;
-use crate::{MatError, ffi, length};
+use crate::{Lossy, MatError, ffi, length};
 
 /// What a metadata blob holds.
 ///
@@ -50,16 +50,24 @@ impl FileWrapper {
 }
 
 /// The C form of the calls that write a name.
-type NameCall =
-    unsafe extern "C" fn(*const u8, usize, u32, *mut u8, usize, *mut u64, *mut u64) -> u32;
+type NameCall = unsafe extern "C" fn(
+    *const u8,
+    usize,
+    u32,
+    *mut u8,
+    usize,
+    *mut u64,
+    *mut u64,
+    *mut u64,
+) -> u32;
 
 fn write_name(
     call: NameCall,
     blob: &[u8],
     number: u32,
     text: &mut [u8],
-) -> Result<usize, MatError> {
-    let (mut bytes, mut place) = (0, 0);
+) -> Result<Lossy, MatError> {
+    let (mut bytes, mut replaced, mut place) = (0, 0, 0);
     // SAFETY: slices and cells are valid, and the lent ones are borrowed alone.
     let number = unsafe {
         call(
@@ -69,41 +77,58 @@ fn write_name(
             text.as_mut_ptr(),
             text.len(),
             &mut bytes,
+            &mut replaced,
             &mut place,
         )
     };
-    answer(number, place, length(bytes))
+    let (bytes, replaced) = (length(bytes), length(replaced));
+    answer(number, place, Lossy { bytes, replaced })
 }
 
-/// Writes the name of an index to the front of `text`, and gives its bytes.
-/// Index 0 is the empty name; ill-formed parts are shown as by
-/// [`write_lossy`](crate::write_lossy).
+/// Writes the name of an index to the front of `text`, and gives its bytes and
+/// the parts that were replaced. Index 0 is the empty name; ill-formed parts are
+/// shown as by [`write_lossy`](crate::write_lossy).
 ///
 /// # Errors
 ///
 /// Checks 1 to 7, 11 and 34.
-pub fn name(blob: &[u8], index: u32, text: &mut [u8]) -> Result<usize, MatError> {
+///
+/// ```
+/// let mut blob = [0; 240];
+/// mcos::build_string_filewrapper_metadata(2, &mut blob)?;
+/// let mut text = [0; 8];
+/// let name = mcos::name(&blob, 1, &mut text)?;
+/// assert_eq!((&text[..name.bytes], name.replaced), (&b"any"[..], 0));
+///
+/// // The name is damaged.
+/// blob[42] = 0xFF;
+/// let name = mcos::name(&blob, 1, &mut text)?;
+/// let shown = "an\u{FFFD}".as_bytes();
+/// assert_eq!((&text[..name.bytes], name.replaced), (shown, 1));
+/// # Ok::<(), mcos::MatError>(())
+/// ```
+pub fn name(blob: &[u8], index: u32, text: &mut [u8]) -> Result<Lossy, MatError> {
     write_name(ffi::mcos_name, blob, index, text)
 }
 
-/// Writes the name of a class to the front of `text`, and gives its bytes:
-/// namespace, full stop, name, or the name alone where the namespace's index is
-/// 0.
+/// Writes the name of a class to the front of `text`: namespace, full stop,
+/// name, or the name alone where the namespace's index is 0. Gives its bytes and
+/// the parts that were replaced in namespace and name together.
 ///
 /// # Errors
 ///
 /// Checks 1 to 7, 9, 11 and 34.
-pub fn class_name(blob: &[u8], class_id: u32, text: &mut [u8]) -> Result<usize, MatError> {
+pub fn class_name(blob: &[u8], class_id: u32, text: &mut [u8]) -> Result<Lossy, MatError> {
     write_name(ffi::mcos_class_name, blob, class_id, text)
 }
 
-/// Writes the name of an object's class to the front of `text`, and gives its
-/// bytes.
+/// Writes the name of an object's class to the front of `text`, as
+/// [`class_name`] does.
 ///
 /// # Errors
 ///
 /// Checks 1 to 7, 8, 9, 11 and 34.
-pub fn object_class_name(blob: &[u8], object_id: u32, text: &mut [u8]) -> Result<usize, MatError> {
+pub fn object_class_name(blob: &[u8], object_id: u32, text: &mut [u8]) -> Result<Lossy, MatError> {
     write_name(ffi::mcos_object_class_name, blob, object_id, text)
 }
 
@@ -117,6 +142,11 @@ pub struct Property {
     pub field_type: u32,
     /// A name index, a number of the heap, or the value itself.
     pub value: u32,
+    /// The parts that are replaced where its name is shown.
+    pub name_replaced: u32,
+    /// The parts that are replaced where its value is shown; 0 unless
+    /// `field_type` is [`Self::NAME`].
+    pub value_replaced: u32,
 }
 
 impl Property {
@@ -143,7 +173,19 @@ impl Property {
 /// mcos::build_string_filewrapper_metadata(2, &mut blob)?;
 /// let mut rows = [Property::default(); 4];
 /// assert_eq!(mcos::properties(&blob, 2, &mut rows)?, 1);
-/// assert_eq!(rows[0], Property { name_index: 1, field_type: Property::HEAP, value: 1 });
+/// let any = Property {
+///     name_index: 1,
+///     field_type: Property::HEAP,
+///     value: 1,
+///     name_replaced: 0,
+///     value_replaced: 0,
+/// };
+/// assert_eq!(rows[0], any);
+///
+/// // The name is damaged.
+/// blob[42] = 0xFF;
+/// mcos::properties(&blob, 2, &mut rows)?;
+/// assert_eq!(rows[0], Property { name_replaced: 1, ..any });
 /// # Ok::<(), mcos::MatError>(())
 /// ```
 pub fn properties(blob: &[u8], object_id: u32, rows: &mut [Property]) -> Result<usize, MatError> {

@@ -120,6 +120,7 @@ unsafe extern "C" {
         text: *mut u8,
         text_len: usize,
         bytes: *mut u64,
+        replaced: *mut u64,
         place: *mut u64,
     ) -> u32;
 
@@ -140,6 +141,7 @@ unsafe extern "C" {
         text: *mut u8,
         text_len: usize,
         bytes: *mut u64,
+        replaced: *mut u64,
         place: *mut u64,
     ) -> u32;
 
@@ -150,6 +152,7 @@ unsafe extern "C" {
         text: *mut u8,
         text_len: usize,
         bytes: *mut u64,
+        replaced: *mut u64,
         place: *mut u64,
     ) -> u32;
 

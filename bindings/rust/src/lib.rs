@@ -80,8 +80,8 @@ pub use writing::{
     encode_string_saveobj_payload, measure_payload,
 };
 
-/// A number of bytes, words, rows or strings: never more than a slice's length,
-/// so it fits.
+/// A number of bytes, words, rows, strings or replaced parts: never more than a
+/// slice's length, so it fits.
 fn length(cell: u64) -> usize {
     usize::try_from(cell).expect("a length within a slice")
 }

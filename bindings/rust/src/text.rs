@@ -33,13 +33,14 @@ pub fn decode_utf16(units: &[u16], text: &mut [u8]) -> Result<usize, MatError> {
     answer(number, place, length(bytes))
 }
 
-/// A text that was made well-formed.
+/// A text that was made well-formed: by [`write_lossy`], or as a name of a blob
+/// is shown.
 #[derive(Debug, Clone, Copy, PartialEq, Eq)]
 pub struct Lossy {
     /// The bytes written.
     pub bytes: usize,
-    /// The ill-formed parts that were replaced. A U+FFFD that stood there
-    /// before does not count.
+    /// The ill-formed parts that were replaced: 0 if there were none. A U+FFFD
+    /// that stood there before does not count.
     pub replaced: usize,
 }
 

@@ -12,6 +12,8 @@ const KEPT_ROW: Property = Property {
     name_index: 91,
     field_type: 92,
     value: 93,
+    name_replaced: 94,
+    value_replaced: 95,
 };
 
 fn built() -> [u8; 240] {
@@ -49,6 +51,14 @@ fn refuses<T: Copy + PartialEq + std::fmt::Debug>(
     let mut buffer = vec![kept; room];
     assert_eq!(call(&mut buffer), Err(error));
     assert_eq!(buffer, vec![kept; room]);
+}
+
+/// The bytes of a text in which so many parts were replaced.
+fn bytes_of(replaced: usize, lossy: Result<Lossy, MatError>) -> Result<usize, MatError> {
+    lossy.map(|lossy| {
+        assert_eq!(lossy.replaced, replaced);
+        lossy.bytes
+    })
 }
 
 /// The same for a call that writes strings.
@@ -109,11 +119,7 @@ fn decode_utf16() {
 #[test]
 fn write_lossy() {
     let bytes = |s: &'static [u8], replaced: usize| {
-        move |out: &mut [u8]| {
-            let lossy = mcos::write_lossy(s, out)?;
-            assert_eq!(lossy.replaced, replaced);
-            Ok(lossy.bytes)
-        }
+        move |out: &mut [u8]| bytes_of(replaced, mcos::write_lossy(s, out))
     };
     writes(b"", KEPT, bytes(b"", 0));
     writes("a€".as_bytes(), KEPT, bytes("a€".as_bytes(), 0));
@@ -235,26 +241,26 @@ fn parse() {
 #[test]
 fn names() {
     let blob = built();
-    let name = |index| move |text: &mut [u8]| mcos::name(&blob, index, text);
+    let name = |index| move |text: &mut [u8]| bytes_of(0, mcos::name(&blob, index, text));
     writes(b"", KEPT, name(0));
     writes(b"any", KEPT, name(1));
     writes(b"string", KEPT, name(2));
     refuses(MatError::NameIndexOutOfRange(3), KEPT, 9, name(3));
     let mut ill_formed = blob;
     ill_formed[41] = 0xFF;
-    let call = |text: &mut [u8]| mcos::name(&ill_formed, 1, text);
+    let call = |text: &mut [u8]| bytes_of(1, mcos::name(&ill_formed, 1, text));
     writes("a\u{FFFD}y".as_bytes(), KEPT, call);
 }
 
 #[test]
 fn classes() {
     let blob = built();
-    let class = |id| move |text: &mut [u8]| mcos::class_name(&blob, id, text);
+    let class = |id| move |text: &mut [u8]| bytes_of(0, mcos::class_name(&blob, id, text));
     writes(b"", KEPT, class(0));
     writes(b"string", KEPT, class(1));
     refuses(MatError::ClassIdOutOfRange(2), KEPT, 9, class(2));
 
-    let of = |id| move |text: &mut [u8]| mcos::object_class_name(&blob, id, text);
+    let of = |id| move |text: &mut [u8]| bytes_of(0, mcos::object_class_name(&blob, id, text));
     writes(b"string", KEPT, of(1));
     writes(b"string", KEPT, of(2));
     for id in [0, 3, u32::MAX] {
@@ -265,10 +271,10 @@ fn classes() {
     // The namespace of class 1 becomes name 1.
     let mut spaced = blob;
     spaced[72] = 1;
-    let call = |text: &mut [u8]| mcos::class_name(&spaced, 1, text);
+    let call = |text: &mut [u8]| bytes_of(0, mcos::class_name(&spaced, 1, text));
     writes(b"any.string", KEPT, call);
     spaced[72] = 3;
-    let call = |text: &mut [u8]| mcos::object_class_name(&spaced, 1, text);
+    let call = |text: &mut [u8]| bytes_of(0, mcos::object_class_name(&spaced, 1, text));
     refuses(MatError::NameIndexOutOfRange(3), KEPT, 19, call);
 }
 
@@ -280,6 +286,8 @@ fn properties() {
         name_index: 1,
         field_type: Property::HEAP,
         value,
+        name_replaced: 0,
+        value_replaced: 0,
     };
     writes(&[any(0)], KEPT_ROW, rows(1));
     writes(&[any(1)], KEPT_ROW, rows(2));

@@ -141,24 +141,67 @@ fn names() {
         ffi::mcos_class_name,
         ffi::mcos_object_class_name,
     );
-    accepts([3, KEPT], |a, _, place| unsafe {
-        name(blob, 192, 1, text, 8, a, place)
+    accepts([3, 0], |a, b, place| unsafe {
+        name(blob, 192, 1, text, 8, a, b, place)
     });
-    refuses(11, 3, |a, _, place| unsafe {
-        name(blob, 192, 3, text, 8, a, place)
+    refuses(11, 3, |a, b, place| unsafe {
+        name(blob, 192, 3, text, 8, a, b, place)
     });
-    accepts([6, KEPT], |a, _, place| unsafe {
-        class(blob, 192, 1, text, 8, a, place)
+    accepts([6, 0], |a, b, place| unsafe {
+        class(blob, 192, 1, text, 8, a, b, place)
     });
-    refuses(9, 2, |a, _, place| unsafe {
-        class(blob, 192, 2, text, 8, a, place)
+    refuses(9, 2, |a, b, place| unsafe {
+        class(blob, 192, 2, text, 8, a, b, place)
     });
-    accepts([6, KEPT], |a, _, place| unsafe {
-        of(blob, 192, 1, text, 8, a, place)
+    accepts([6, 0], |a, b, place| unsafe {
+        of(blob, 192, 1, text, 8, a, b, place)
     });
-    refuses(8, 2, |a, _, place| unsafe {
-        of(blob, 192, 2, text, 8, a, place)
+    refuses(8, 2, |a, b, place| unsafe {
+        of(blob, 192, 2, text, 8, a, b, place)
     });
+}
+
+/// The count is a cell of its own, which a refusal keeps.
+#[test]
+fn damaged_names() {
+    let mut blob = built();
+    // Names 1 and 2 are a, FF, y and E0, 80, ring; 1 is the namespace of class 1.
+    blob[41] = 0xFF;
+    blob[44..46].copy_from_slice(b"\xE0\x80");
+    blob[72] = 1;
+    let blob = blob.as_ptr();
+    let mut text = [0; 16];
+    let text = text.as_mut_ptr();
+    let (class, of) = (ffi::mcos_class_name, ffi::mcos_object_class_name);
+    for (index, bytes, replaced) in [(0, 0, 0), (1, 5, 1), (2, 10, 2)] {
+        accepts([bytes, replaced], |a, b, place| unsafe {
+            ffi::mcos_name(blob, 192, index, text, 16, a, b, place)
+        });
+    }
+    refuses(34, 10, |a, b, place| unsafe {
+        ffi::mcos_name(blob, 192, 2, text, 9, a, b, place)
+    });
+    for call in [class, of] {
+        accepts([16, 3], |a, b, place| unsafe {
+            call(blob, 192, 1, text, 16, a, b, place)
+        });
+        refuses(34, 16, |a, b, place| unsafe {
+            call(blob, 192, 1, text, 15, a, b, place)
+        });
+    }
+
+    let mut rows = [Property::default(); 2];
+    accepts([1, KEPT], |a, _, place| unsafe {
+        ffi::mcos_properties(blob, 192, 1, rows.as_mut_ptr(), 2, a, place)
+    });
+    let expected = Property {
+        name_index: 1,
+        field_type: Property::HEAP,
+        value: 0,
+        name_replaced: 1,
+        value_replaced: 0,
+    };
+    assert_eq!(rows, [expected, Property::default()]);
 }
 
 #[test]

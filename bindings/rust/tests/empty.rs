@@ -1,8 +1,8 @@
 //! A blob of 0 bytes: a file without string objects. Its pointer is that of a
 //! slice of 0 bytes, which is not null: of a part, or of nothing at all.
 
-use mcos::{Array, Buffers, Cells, Counts, FileWrapper, Label, MatError, ObjectRow, Property};
-use mcos::{Source, Strings};
+use mcos::{Array, Buffers, Cells, Counts, FileWrapper, Label, Lossy, MatError, ObjectRow};
+use mcos::{Property, Source, Strings};
 
 const KEPT: u8 = 0xA5;
 const KEPT_WORD: u64 = 0xA5A5_A5A5_A5A5_A5A5;
@@ -44,8 +44,10 @@ fn the_next_length_that_opens_is_40() {
 fn it_has_the_empty_name_alone() {
     for blob in empty_blobs() {
         let mut text = [KEPT; 2];
-        assert_eq!(mcos::name(blob, 0, &mut text), Ok(0));
-        assert_eq!(mcos::name(blob, 0, &mut []), Ok(0));
+        let (bytes, replaced) = (0, 0);
+        let empty = Lossy { bytes, replaced };
+        assert_eq!(mcos::name(blob, 0, &mut text), Ok(empty));
+        assert_eq!(mcos::name(blob, 0, &mut []), Ok(empty));
         for index in [1, 2, u32::MAX] {
             let error = MatError::NameIndexOutOfRange(index.into());
             assert_eq!(mcos::name(blob, index, &mut text), Err(error));
