@@ -9,7 +9,7 @@ use crate::rng::Rng;
 
 /// Names to make heaps of: empty, sound, and ill-formed in every way. A heap
 /// has some of them more than once.
-pub(super) const NAMES: [&[u8]; 18] = [
+const NAMES: [&[u8]; 18] = [
     b"",
     b"a",
     b"pkg",
@@ -34,14 +34,8 @@ pub(super) const NAMES: [&[u8]; 18] = [
     b"a\xEF\xBF\xBD\xE2\x82",
 ];
 
-/// All names of one and two bytes, and all of three and four boundary bytes.
-/// The heap ends with them; a zero byte among them ends them before.
-pub(super) fn short_names(judge: &mut Judge, share: Share) {
-    let mut name = |bytes: &[u8]| {
-        let blob = blobs::heap(1, bytes);
-        let opened = asked(|| oracle::open(&blob));
-        labels::of_index(judge, &blob, &opened, 1);
-    };
+/// Each name of one and two bytes, and of three and four boundary bytes.
+pub(super) fn each_name(share: Share, mut name: impl FnMut(&[u8])) {
     for pair in shared(0..=u16::MAX, share) {
         name(&pair.to_be_bytes());
     }
@@ -53,20 +47,35 @@ pub(super) fn short_names(judge: &mut Judge, share: Share) {
     }
 }
 
-/// All heaps of up to three names, with a zero at the end and without, and one
+/// Each heap of up to three names, with a zero at the end and without, and one
 /// name declared too few, all, and one too many.
-pub(super) fn short_heaps(judge: &mut Judge, share: Share) {
+pub(super) fn each_heap(share: Share, mut heap: impl FnMut(u32, &[u8])) {
     for len in 0..=3 {
         every(&NAMES, len, share, |names| {
             for end in [&[][..], &[0]] {
-                let heap = [&names.join(&0), end].concat();
-                let all = pieces(&heap);
+                let bytes = [&names.join(&0), end].concat();
+                let all = pieces(&bytes);
                 for declared in [all - 1, all, all + 1] {
-                    labels_of(judge, &blobs::heap(declared, &heap));
+                    heap(declared, &bytes);
                 }
             }
         });
     }
+}
+
+/// The heap ends with the name; a zero byte in it ends it before.
+pub(super) fn short_names(judge: &mut Judge, share: Share) {
+    each_name(share, |bytes| {
+        let blob = blobs::heap(1, bytes);
+        let opened = asked(|| oracle::open(&blob));
+        labels::of_index(judge, &blob, &opened, 1);
+    });
+}
+
+pub(super) fn short_heaps(judge: &mut Judge, share: Share) {
+    each_heap(share, |declared, heap| {
+        labels_of(judge, &blobs::heap(declared, heap))
+    });
 }
 
 /// Heaps of more names, and long ones.
@@ -94,7 +103,7 @@ fn labels_of(judge: &mut Judge, blob: &[u8]) {
     labels::of_blob(judge, blob, &opened);
 }
 
-pub(super) fn pieces(heap: &[u8]) -> u32 {
+fn pieces(heap: &[u8]) -> u32 {
     1 + heap.iter().filter(|&&byte| byte == 0).count() as u32
 }
 

@@ -1,16 +1,14 @@
 //! The damaged names of a run, in every place that a name has.
 
-use super::labels::{NAMES, long_name, pieces};
-use super::{Share, shared};
+use super::Share;
+use super::labels::{each_heap, each_name, long_name};
 use crate::generate::blobs::{self, AT_ONCE, Plan};
-use crate::generate::{every, text};
 use crate::judge::Judge;
 use crate::repaired::{self, Query, Sides};
 use crate::rng::Rng;
 
-/// All names of one and two bytes, and all of three and four boundary bytes:
-/// each by its index, and in one of the other places in turn. A zero byte among
-/// them ends the name before.
+/// Each name by its index, and in one of the other places in turn. A zero byte
+/// in it ends it before.
 pub(super) fn short_names(judge: &mut Judge, share: Share) {
     const PLACES: [Query; 5] = [
         Query::Properties(1),
@@ -20,38 +18,19 @@ pub(super) fn short_names(judge: &mut Judge, share: Share) {
         Query::ObjectClass(1),
     ];
     let mut places = PLACES.iter().cycle();
-    let mut name = |bytes: &[u8]| {
+    each_name(share, |bytes| {
         let blob = blobs::beside_damaged(bytes);
         let sides = Sides::open(&blob);
         sides.ask(judge, Query::Name(1));
         let place = places.next().expect("there are always more");
         sides.ask(judge, *place);
-    };
-    for pair in shared(0..=u16::MAX, share) {
-        name(&pair.to_be_bytes());
-    }
-    for byte in shared(0..=u8::MAX, share) {
-        name(&[byte]);
-    }
-    for len in [0, 3, 4] {
-        every(&text::BYTES, len, share, &mut name);
-    }
+    });
 }
 
-/// All heaps of up to three names, with a zero at the end and without, and one
-/// name declared too few, all, and one too many.
 pub(super) fn short_heaps(judge: &mut Judge, share: Share) {
-    for len in 0..=3 {
-        every(&NAMES, len, share, |names| {
-            for end in [&[][..], &[0]] {
-                let heap = [&names.join(&0), end].concat();
-                let all = pieces(&heap);
-                for declared in [all - 1, all, all + 1] {
-                    repaired::of_blob(judge, &blobs::referring(declared, &heap));
-                }
-            }
-        });
-    }
+    each_heap(share, |declared, heap| {
+        repaired::of_blob(judge, &blobs::referring(declared, heap));
+    });
 }
 
 /// The names of document 02 and its recorded answers, each in every place; and
