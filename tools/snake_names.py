@@ -137,8 +137,10 @@ def main(argv):
     own = {w for f in texts for w in f.words() if is_turned(w)}
     declared = {w for f in texts if f.path.endswith(".antt") for w in DECLARED.findall(f.code)}
     definitions = {spelled(w) for w in own if "-" not in w}
+    # A module goes by the name that a file gives it.
+    aliases = {w for f in texts for w in re.findall(r"(?m) as (\S+)$", f.code)}
     table = {w: spelled(w) for w in own}
-    for word in own:
+    for word in own - aliases:
         if "-" in word and (spelled(word) in definitions or spelled(word) in declared):
             table[word] += "_lem"
     for word in declared & definitions:
@@ -149,7 +151,8 @@ def main(argv):
                 table[word] += "_lem"
     olds = collections.defaultdict(set)
     for old, new in table.items():
-        olds[new].add(old)
+        if old not in aliases:
+            olds[new].add(old)
     bad = [f"{new} would be the name of {', '.join(sorted(it))}" for new, it in olds.items() if len(it) > 1]
     for f in texts:
         bad += [f"{f.path}: {table[w]} is a library's, and {w} would have its name" for w in f.words() & own if table[w] in f.theirs]

@@ -14,7 +14,7 @@ use Rattle.text.specs.Result.{Result, ok, error, map_result, check_output, overw
 use Rattle.text.specs.declared.error.Failure.{Failure}
 use Rattle.text.specs.declared.error.MatError.{MatError}
 use Rattle.text.specs.declared.reply.LengthReply.{LengthReply}
-use Rattle.text.specs.declared.reply.LengthReply.TheVariants as length_reply_lem
+use Rattle.text.specs.declared.reply.LengthReply.TheVariants as length_reply
 use Rattle.text.proofs.BufferLaws.{put_none, put_one, SoFar, begins, goes_on, ends}
 use Rattle.writer.specs.Array.{payloads}
 use Rattle.writer.specs.FileWrapper.{file_wrapper, build_metadata}
@@ -227,40 +227,40 @@ empty_metadata room = rw (length_file_wrapper 0)
 
 module _ (blob : List ℕ) {r : LengthReply} {blob' : List ℕ} where
   built_by : (c : Result (Unit {0})) {n : ℕ} → length_reply_of r ≡ map_result length (c >> ok (file_wrapper 0)) → blob' ≡ overwritten (λ x. x) (c >> ok (file_wrapper 0)) blob
-      → r ≡ length_reply_lem.Length n → (c ≡ ok tt) × (blob' ≡ over (file_wrapper 0) blob)
+      → r ≡ length_reply.Length n → (c ≡ ok tt) × (blob' ≡ over (file_wrapper 0) blob)
   built_by (ok t) m b e = (refl, b)
   built_by (error f) m b e =
       let z : ◌≡◌ {A = ℕ} 0 1 = cc in
       absurd (omega arith)
 
   refused_by : (c : Result (Unit {0})) {f : MatError} → length_reply_of r ≡ map_result length (c >> ok (file_wrapper 0)) → blob' ≡ overwritten (λ x. x) (c >> ok (file_wrapper 0)) blob
-      → r ≡ length_reply_lem.Error f → (c ≡ error (failure_of f)) × (blob' ≡ blob)
+      → r ≡ length_reply.Error f → (c ≡ error (failure_of f)) × (blob' ≡ blob)
   refused_by (error f) m b e = (cc, b)
   refused_by (ok t) m b e =
       let z : ◌≡◌ {A = ℕ} 0 1 = cc in
       absurd (omega arith)
 
   module _ (m : BuildsMetadata 0 blob r blob') where
-    built : {n : ℕ} → r ≡ length_reply_lem.Length n → (check_output 144 (length blob) ≡ ok tt) × (blob' ≡ over (file_wrapper 0) blob)
+    built : {n : ℕ} → r ≡ length_reply.Length n → (check_output 144 (length blob) ≡ ok tt) × (blob' ≡ over (file_wrapper 0) blob)
     built e = built_by (check_output 144 (length blob)) (rw (empty_metadata (length blob)) at m.reply) (rw (empty_metadata (length blob)) at m.buffer) e
 
-    refused : {f : MatError} → r ≡ length_reply_lem.Error f → (check_output 144 (length blob) ≡ error (failure_of f)) × (blob' ≡ blob)
+    refused : {f : MatError} → r ≡ length_reply.Error f → (check_output 144 (length blob) ≡ error (failure_of f)) × (blob' ≡ blob)
     refused e = refused_by (check_output 144 (length blob)) (rw (empty_metadata (length blob)) at m.reply) (rw (empty_metadata (length blob)) at m.buffer) e
 
     module _ (directory kinds words : List ℕ) where
-      pub run_begins : {n : ℕ} → r ≡ length_reply_lem.Length n → IsEmpty (store_of 0 144 0 blob' directory kinds words)
+      pub run_begins : {n : ℕ} → r ≡ length_reply.Length n → IsEmpty (store_of 0 144 0 blob' directory kinds words)
       unfolding payloads spans_from flat_map
       run_begins e =
           let w = file_wrapper 0 in
           rw (built e).1 (record { is = rw (take_at w (drop (length w) blob) 144 (length_file_wrapper 0), ← length_file_wrapper 0) })
 
       module _ (es : List Edit) (replies : List ℕ) where
-        pub run_done : {n : ℕ} {ran : Ran} {b' d' k' w' replies' : List ℕ} → r ≡ length_reply_lem.Length n
+        pub run_done : {n : ℕ} {ran : Ran} {b' d' k' w' replies' : List ℕ} → r ≡ length_reply.Length n
             → Ends (store_of 0 144 0 blob' directory kinds words) es replies ran b' d' k' w' replies'
             → Runs blob directory kinds words es replies (run.Done ran) b' d' k' w' replies'
         run_done e l = record { reply = sym (built e).0; leaves = rw (built e).1 at l }
 
-        pub run_error : {f : MatError} → r ≡ length_reply_lem.Error f → Runs blob directory kinds words es replies (run.Error f) blob' directory kinds words replies
+        pub run_error : {f : MatError} → r ≡ length_reply.Error f → Runs blob directory kinds words es replies (run.Error f) blob' directory kinds words replies
         run_error e = record {
           reply = sym (refused e).0;
           leaves = record { same_blob = (refused e).1; same_directory = refl; same_kinds = refl; same_words = refl; same_replies = refl };

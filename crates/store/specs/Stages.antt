@@ -5,7 +5,7 @@ use Rattle.text.specs.Buffer.{put, over}
 use Rattle.text.specs.Errors.{failure_of}
 use Rattle.text.specs.Result.{ok, error}
 use Rattle.text.specs.declared.reply.LengthReply.{LengthReply}
-use Rattle.text.specs.declared.reply.LengthReply.TheVariants as length_reply_lem
+use Rattle.text.specs.declared.reply.LengthReply.TheVariants as length_reply
 use Rattle.writer.specs.Array.{payload, array_of}
 use Rattle.writer.specs.Spans.{offset_at, length_at, end_at, string_at}
 use Rattle.writer.specs.Stages.Payload.{array_in}
@@ -95,8 +95,8 @@ pub record AppendChecked (s : Store) (dims text spans : List ℕ) (words : ℕ) 
 
 -- the words of the payload, with what is then known; or the refusal
 abbrev pub ChecksAppend : Store → List ℕ → List ℕ → List ℕ → LengthReply → Type 0
-ChecksAppend s dims text spans (length_reply_lem.Length n) = AppendChecked s dims text spans n
-ChecksAppend s dims text spans (length_reply_lem.Error e) = check_append s dims text spans ≡ error (failure_of e)
+ChecksAppend s dims text spans (length_reply.Length n) = AppendChecked s dims text spans n
+ChecksAppend s dims text spans (length_reply.Error e) = check_append s dims text spans ≡ error (failure_of e)
 
 -- and 34
 pub record Appendable (s : Store) (dims text spans : List ℕ) (words : ℕ) : Type 0 where
@@ -109,8 +109,8 @@ pub record Appendable (s : Store) (dims text spans : List ℕ) (words : ℕ) : T
 
 -- the words of the payload that is added, or the refusal
 abbrev pub Appends : Store → List ℕ → List ℕ → List ℕ → LengthReply → Type 0
-Appends s dims text spans (length_reply_lem.Length n) = Appendable s dims text spans n
-Appends s dims text spans (length_reply_lem.Error e) = appended s dims text spans ≡ error (failure_of e)
+Appends s dims text spans (length_reply.Length n) = Appendable s dims text spans n
+Appends s dims text spans (length_reply.Error e) = appended s dims text spans ≡ error (failure_of e)
 
 -- ---- replace
 
@@ -143,8 +143,8 @@ pub record ReplaceChecked (s : Store) (id : ℕ) (dims text spans : List ℕ) (w
 
 -- the words of the payload, with what is then known; or the refusal
 abbrev pub ChecksReplace : Store → ℕ → List ℕ → List ℕ → List ℕ → LengthReply → Type 0
-ChecksReplace s id dims text spans (length_reply_lem.Length n) = ReplaceChecked s id dims text spans n
-ChecksReplace s id dims text spans (length_reply_lem.Error e) = check_replace s id dims text spans ≡ error (failure_of e)
+ChecksReplace s id dims text spans (length_reply.Length n) = ReplaceChecked s id dims text spans n
+ChecksReplace s id dims text spans (length_reply.Error e) = check_replace s id dims text spans ≡ error (failure_of e)
 
 -- and 34
 pub record Replaceable (s : Store) (id : ℕ) (dims text spans : List ℕ) (words : ℕ) : Type 0 where
@@ -154,5 +154,5 @@ pub record Replaceable (s : Store) (id : ℕ) (dims text spans : List ℕ) (word
 
 -- the words of the payload that takes the place, or the refusal
 abbrev pub Replaces : Store → ℕ → List ℕ → List ℕ → List ℕ → LengthReply → Type 0
-Replaces s id dims text spans (length_reply_lem.Length n) = Replaceable s id dims text spans n
-Replaces s id dims text spans (length_reply_lem.Error e) = replaced s id dims text spans ≡ error (failure_of e)
+Replaces s id dims text spans (length_reply.Length n) = Replaceable s id dims text spans n
+Replaces s id dims text spans (length_reply.Error e) = replaced s id dims text spans ≡ error (failure_of e)
