@@ -23,7 +23,7 @@ pub const EDIT_WIDTH: usize = 8;
 pub const REPLY_WIDTH: usize = 2;
 
 // The counts of a store, and how many edits were run on it.
-#[derive(Drop)]
+#[derive(Clone, Copy)]
 pub struct Ran {
     pub objects: u64,
     pub blob_bytes: u64,
@@ -32,7 +32,7 @@ pub struct Ran {
 }
 
 // What a run answers: the error says that the blob cannot hold the empty store.
-#[derive(Drop)]
+#[derive(Clone, Copy)]
 pub enum RunReply {
     Done(Ran),
     Error(MatError),

@@ -9,7 +9,7 @@ use text::error::MatError;
 use text::reply::LengthReply;
 
 // A part of a line other than a name.
-#[derive(Drop)]
+#[derive(Clone, Copy)]
 pub enum LinePart {
     Names(u32), // names N, end of line
     Refused(u32), // refused N, end of line

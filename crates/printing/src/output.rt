@@ -26,7 +26,7 @@ pub(crate) fn large_buffer() -> [u8; 65536]
 }
 
 // How many bytes of the buffer are still to be written, and whether a write failed. After that nothing is written any more.
-#[derive(Drop)]
+#[derive(Clone, Copy)]
 pub(crate) struct Output {
     pub(crate) used: usize,
     pub(crate) failed: bool,

@@ -160,6 +160,9 @@ same_by (ok t) text text' w =
     (λ h. ap length (simp h at w) ∙ length_over t.text text (leb-true (length t.text) (length text) h))
     (λ h. ap length (simp h at w))
 
+pub text_same : {m : Result ShownText} {text text' : List ℕ} {r : NameReply} → WritesText m text r text' → length text' ≡ length text
+text_same {m} {text} {text'} w = same_by m text text' w.buffer
+
 -- the same of a part of the blob
 module _ (b text : List ℕ) {p : Piece} {x : LossyReply} {text' : List ℕ} (i : InBlob b p)
     (l : WritesLossy (take (p.end - p.start) (drop p.start b)) text x text') where

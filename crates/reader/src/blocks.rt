@@ -29,7 +29,7 @@ fn remaining(at: usize, end: usize) -> usize
 }
 
 // The number of blocks of a region, or the byte of the first count whose entries leave the region.
-#[derive(Drop)]
+#[derive(Clone, Copy)]
 pub(crate) enum BlockCount {
     Blocks(usize),
     Truncated(usize),

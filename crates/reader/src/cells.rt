@@ -62,7 +62,7 @@ pub fn check_directory(directory: &[u64], kinds: &[u8], words: usize) -> Checked
 }
 
 // Where the words of a cell start and end, or the refusal.
-#[derive(Drop)]
+#[derive(Clone, Copy)]
 pub(crate) enum CellReply {
     Cell { start: usize, end: usize },
     Error(MatError),

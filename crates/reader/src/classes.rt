@@ -49,7 +49,7 @@ fn write_joined(blob: &[u8], namespace: Piece, name: Piece, text: &mut [u8]) -> 
 }
 
 // The entry of a class, or the refusal.
-#[derive(Drop)]
+#[derive(Clone, Copy)]
 enum ClassReply {
     Entry(ClassEntry),
     Error(MatError),

@@ -41,7 +41,7 @@ pub struct FileWrapper {
     pub offsets: Offsets,
 }
 
-#[derive(Drop)]
+#[derive(Clone, Copy)]
 pub enum ParseReply {
     Parsed(FileWrapper),
     Error(MatError),

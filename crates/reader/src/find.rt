@@ -49,7 +49,7 @@ fn first_flagged(
 }
 
 // Whether a name, or one of several, is stored as wanted, and where the next name begins.
-#[derive(Drop)]
+#[derive(Clone, Copy)]
 struct Looked {
     equal: bool,
     next: usize,
@@ -100,7 +100,7 @@ fn mark_names(
 }
 
 // Names below name have been looked at; name begins at start; best is the first triple that has a wanted one of them.
-#[derive(Drop)]
+#[derive(Clone, Copy)]
 struct Walk {
     name: usize,
     start: usize,
@@ -154,7 +154,7 @@ pub(crate) fn first_named(
 }
 
 // The position of a property, from 0, or that there is none, or the refusal.
-#[derive(Drop)]
+#[derive(Clone, Copy)]
 pub enum FindReply {
     Found(usize),
     NotFound,

@@ -9,14 +9,14 @@ use text::error::MatError;
 use text::utf8::{TextLength, terminated_length};
 
 // The buffer that a part belongs to.
-#[derive(Drop)]
+#[derive(Clone, Copy)]
 pub enum Source {
     Blob,
     Placeholder,
 }
 
 // A part of a lent buffer: which buffer, its first byte there, and how many bytes.
-#[derive(Drop)]
+#[derive(Clone, Copy)]
 pub struct Part {
     pub source: Source,
     pub start: usize,
@@ -24,7 +24,7 @@ pub struct Part {
 }
 
 // The part, or the refusal.
-#[derive(Drop)]
+#[derive(Clone, Copy)]
 pub enum LabelReply {
     Part(Part),
     Error(MatError),

@@ -18,7 +18,7 @@ use text::error::MatError;
 use text::reply::{Checked, LengthReply};
 
 // The block ids that were met last in each region, and whether one was below the one before it.
-#[derive(Drop)]
+#[derive(Clone, Copy)]
 struct Order {
     saveobj: u32,
     normalobj: u32,
@@ -44,7 +44,7 @@ fn met(order: Order, block: BlockId) -> Order {
 }
 
 // Whether check 10 holds for each object, and then whether block ids fall within a region.
-#[derive(Drop)]
+#[derive(Clone, Copy)]
 pub(crate) enum ObjectsCheck {
     Passed(bool),
     Failed(MatError),
@@ -408,7 +408,7 @@ pub fn list_objects(blob: &[u8], rows: &mut [ObjectRow]) -> LengthReply
 }
 
 // A listing of eight rows, and its reply.
-#[derive(Drop)]
+#[derive(Clone, Copy)]
 pub struct ObjectList {
     pub reply: LengthReply,
     pub rows: [ObjectRow; 8],

@@ -39,7 +39,7 @@ fn count_zeros(blob: &[u8], start: usize) -> usize
 }
 
 // Zero bytes that were passed, and where the next byte is.
-#[derive(Drop)]
+#[derive(Clone, Copy)]
 struct Skipped {
     zeros: usize,
     at: usize,
@@ -125,7 +125,7 @@ pub(crate) fn piece_end(blob: &[u8], start: usize, end: usize) -> usize
 }
 
 // Where a piece ends, and whether its bytes are wanted.
-#[derive(Drop)]
+#[derive(Clone, Copy)]
 pub(crate) struct Compared {
     pub(crate) equal: bool,
     pub(crate) end: usize,
@@ -208,7 +208,7 @@ pub(crate) fn name_piece(blob: &[u8], end: usize, index: usize) -> Piece
 }
 
 // A text that was written: its length in bytes, and how many replacement characters stand in it for ill-formed parts; or the refusal.
-#[derive(Drop)]
+#[derive(Clone, Copy)]
 pub enum NameReply {
     Text { bytes: usize, replaced: usize },
     Error(MatError),
@@ -245,7 +245,7 @@ pub(crate) fn write_piece(blob: &[u8], piece: Piece, text: &mut [u8]) -> NameRep
 }
 
 // The length of a repaired piece, and how many of its parts are replaced.
-#[derive(Drop)]
+#[derive(Clone, Copy)]
 pub(crate) struct PieceSize {
     pub(crate) bytes: usize,
     pub(crate) replaced: usize,

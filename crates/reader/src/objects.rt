@@ -112,7 +112,7 @@ pub(crate) fn object_row(object: ObjectRecord, block: BlockId, property_count: u
 }
 
 // An object, and the byte of its block's count (0 where it has no block).
-#[derive(Drop)]
+#[derive(Clone, Copy)]
 pub(crate) enum ObjectReply {
     Object { row: ObjectRow, at: usize },
     Error(MatError),

@@ -11,14 +11,14 @@ use writer::string_object::MCOS_MAGIC_NUMBER;
 pub const MAX_OPAQUE_WORDS: usize = 65536;
 
 // Where the object ids begin, how many they are, and the class id after them.
-#[derive(Drop)]
+#[derive(Clone, Copy)]
 pub struct OpaqueMetadata {
     pub first_id: usize,
     pub ids: usize,
     pub class_id: u32,
 }
 
-#[derive(Drop)]
+#[derive(Clone, Copy)]
 pub enum OpaqueReply {
     Parsed(OpaqueMetadata),
     Error(MatError),

@@ -55,7 +55,7 @@ fn check_triples(blob: &[u8], w: FileWrapper, start: usize, count: usize) -> Che
 }
 
 // The triples of an object: the opened blob, the byte of the first, and their number.
-#[derive(Drop)]
+#[derive(Clone, Copy)]
 pub(crate) enum TriplesReply {
     Triples {
         w: FileWrapper,

@@ -66,7 +66,7 @@ impl ObjectRecord {
 }
 
 // A property: its name index, how its value is meant, and the value.
-#[derive(Drop)]
+#[derive(Clone, Copy)]
 pub(crate) struct Triple {
     pub(crate) name_idx: u32,
     pub(crate) field_type: u32,

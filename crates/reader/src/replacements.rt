@@ -10,7 +10,7 @@ use crate::properties::ROW_WIDTH;
 use text::utf8::{Validity, validate};
 
 // The count of a name, and where the next one begins.
-#[derive(Drop)]
+#[derive(Clone, Copy)]
 struct NameCount {
     replaced: u32,
     next: usize,
@@ -30,7 +30,7 @@ fn count_name(blob: &[u8], w: FileWrapper, index: usize, start: usize) -> NameCo
 }
 
 // Whether one of several names has a replacement character, and where the next name begins.
-#[derive(Drop)]
+#[derive(Clone, Copy)]
 struct ChunkCount {
     any: bool,
     next: usize,
@@ -114,7 +114,7 @@ fn recount_rows(
 }
 
 // Names below name have been counted; name begins at start.
-#[derive(Drop)]
+#[derive(Clone, Copy)]
 struct CountWalk {
     name: usize,
     start: usize,

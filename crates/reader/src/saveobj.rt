@@ -16,7 +16,7 @@ use writer::string_object::{MATLAB_STRING_SAVEOBJ_VERSION, MAX_PAYLOAD_WORDS};
 const MISSING: u64 = 0xFFFF_FFFF_FFFF_FFFF;
 
 // The index of the first length and the number of strings, or the refusal.
-#[derive(Drop)]
+#[derive(Clone, Copy)]
 pub(crate) enum HeaderReply {
     Header { base: usize, strings: usize },
     Error(MatError),
@@ -64,7 +64,7 @@ fn unit_count(payload: &[u64], base: usize, i: usize) -> usize
 }
 
 // A number that was checked, or the refusal.
-#[derive(Drop)]
+#[derive(Clone, Copy)]
 pub(crate) enum NumberReply {
     Number(u64),
     Error(MatError),
@@ -89,7 +89,7 @@ fn sum_lengths(payload: &[u64], base: usize, n: usize) -> NumberReply
 }
 
 // The index of the first length, the number of strings and that of their code units, or the refusal.
-#[derive(Drop)]
+#[derive(Clone, Copy)]
 pub(crate) enum LayoutReply {
     Layout {
         base: usize,
@@ -123,7 +123,7 @@ fn read_layout(payload: &[u64]) -> LayoutReply
 }
 
 // The bytes of text and the number of strings, or the refusal.
-#[derive(Drop)]
+#[derive(Clone, Copy)]
 pub enum StringsReply {
     Strings { bytes: usize, strings: usize },
     Error(MatError),
@@ -215,7 +215,7 @@ fn put_strings(
 }
 
 // Where the next string goes: its first byte, and its index among the spans.
-#[derive(Drop)]
+#[derive(Clone, Copy)]
 pub(crate) struct Position {
     pub(crate) byte: usize,
     pub(crate) string: usize,

@@ -20,7 +20,7 @@ use text::error::MatError;
 use text::reply::Checked;
 
 // The property that leads to a string object's cell: the one named any, else the first. An object without properties has none.
-#[derive(Drop)]
+#[derive(Clone, Copy)]
 pub(crate) enum ChosenReply {
     Property(Triple),
     NoProperties,

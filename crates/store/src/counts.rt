@@ -8,7 +8,7 @@ use crate::edits::EditReply;
 use crate::replace::replace_at;
 
 // The counts of a store.
-#[derive(Drop)]
+#[derive(Clone, Copy)]
 pub struct Counts {
     pub objects: u64,
     pub blob_bytes: u64,

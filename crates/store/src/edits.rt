@@ -16,7 +16,7 @@ pub enum EditReply {
 }
 
 // The counts of a store after an edit, and its answer.
-#[derive(Drop)]
+#[derive(Clone, Copy)]
 pub struct Edited {
     pub objects: u64,
     pub blob_bytes: u64,

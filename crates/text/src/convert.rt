@@ -20,7 +20,7 @@ pub fn product_fits(a: u64, b: u64) -> bool
 }
 
 // What multiplying dimensions came to: their product, or the first dimension at which it passes 64 bits.
-#[derive(Drop)]
+#[derive(Clone, Copy)]
 pub enum Product {
     Of(u64),
     OverflowAt(usize),

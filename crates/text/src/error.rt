@@ -44,7 +44,7 @@ pub enum MatError {
 }
 
 // The number of a check and its place, as the documents count them.
-#[derive(Drop)]
+#[derive(Clone, Copy)]
 pub struct Failure {
     pub number: u32,
     pub place: u64,

@@ -29,7 +29,7 @@ fn point_in(points: &[u16], byte: u8) -> u32
 }
 
 // A character's byte, or that it has none.
-#[derive(Drop)]
+#[derive(Clone, Copy)]
 enum ByteReply {
     Byte(u8),
     Unmappable,

@@ -2,14 +2,14 @@
 use crate::error::MatError;
 
 // Whether a run of checks holds.
-#[derive(Drop)]
+#[derive(Clone, Copy)]
 pub enum Checked {
     Passed,
     Failed(MatError),
 }
 
 // A length or a count, or the refusal.
-#[derive(Drop)]
+#[derive(Clone, Copy)]
 pub enum LengthReply {
     Length(usize),
     Error(MatError),

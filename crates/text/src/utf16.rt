@@ -11,7 +11,7 @@ use crate::reply::LengthReply;
 use crate::utf8::{TextLength, put_utf8, utf8_size};
 
 // What decoding finds: a scalar value and how many units it took, or a surrogate that has no partner.
-#[derive(Drop)]
+#[derive(Clone, Copy)]
 pub enum UnitStep {
     Scalar { value: u32, units: usize },
     Unpaired,

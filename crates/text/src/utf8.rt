@@ -10,7 +10,7 @@ ghost use Rattle.text.specs.Utf8.{sequence_length, second_range, has_in, step_at
 use crate::copy::copy_bytes;
 
 // The range of a byte, both ends in it.
-#[derive(Drop)]
+#[derive(Clone, Copy)]
 struct Range {
     low: u8,
     high: u8,
@@ -75,7 +75,7 @@ fn has(s: &[u8], i: usize, low: u8, high: u8) -> bool
 }
 
 // What decoding at a position finds. The definitions of other crates name its cases.
-#[derive(Drop)]
+#[derive(Clone, Copy)]
 pub enum Step {
     // A well-formed sequence: its scalar value, and the position past it.
     Scalar { value: u32, next: usize },
@@ -309,7 +309,7 @@ pub(crate) fn put_utf8(value: u32, out: &mut [u8], at: usize) -> usize
 }
 
 // The number of UTF-16 code units of a well-formed text, or the position of the first ill-formed part.
-#[derive(Drop)]
+#[derive(Clone, Copy)]
 pub enum UnitCount {
     Units(usize),
     IllFormed(usize),
@@ -341,7 +341,7 @@ pub fn count_units(text: &[u8]) -> UnitCount
 }
 
 // Whether a text is well-formed, or the position of the first ill-formed part.
-#[derive(Drop)]
+#[derive(Clone, Copy)]
 pub enum Validity {
     WellFormed,
     IllFormed(usize),
@@ -376,7 +376,7 @@ pub(crate) fn is_text_from(text: &[u8], start: usize) -> bool
 }
 
 // The length of a text in bytes, or that what it is read from is ill-formed.
-#[derive(Drop)]
+#[derive(Clone, Copy)]
 pub enum TextLength {
     Length(usize),
     IllFormed,
@@ -407,7 +407,7 @@ pub fn terminated_length(bytes: &[u8]) -> TextLength
 
 // The length of a repaired text and the number of ill-formed parts that were replaced, a genuine U+FFFD not among them; or that the
 // length does not fit 64 bits.
-#[derive(Drop)]
+#[derive(Clone, Copy)]
 pub enum LossyLength {
     Length { bytes: usize, replaced: usize },
     TooLong,
@@ -515,7 +515,7 @@ fn put_repaired(s: &[u8], out: &mut [u8], at: usize) -> usize
 }
 
 // What writing a repaired text came to: its bytes and the number of replaced parts, or the bytes that it needs.
-#[derive(Drop)]
+#[derive(Clone, Copy)]
 pub enum LossyReply {
     Written { bytes: usize, replaced: usize },
     TooShort(usize),

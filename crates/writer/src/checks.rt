@@ -7,7 +7,7 @@ use text::convert::{Product, checked_product, to_usize};
 use text::utf8::{UnitCount, count_units};
 
 // What measuring a string came to: the end of its span and its code units, or that check 30 does not hold of it.
-#[derive(Drop)]
+#[derive(Clone, Copy)]
 pub(crate) enum StringMeasure {
     Units { end: usize, units: usize },
     Bad,
@@ -37,7 +37,7 @@ fn measure_string(text: &[u8], spans: &[u64], i: usize, end: usize) -> StringMea
 }
 
 // What measuring all strings came to: their code units, or the first string that check 30 does not hold of.
-#[derive(Drop)]
+#[derive(Clone, Copy)]
 pub(crate) enum TextMeasure {
     Units(usize),
     Bad(usize),

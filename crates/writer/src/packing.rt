@@ -106,7 +106,7 @@ fn push_ascii(text: &[u8], i: usize, words: &mut [u64], first: usize, carry: Car
 }
 
 // A scalar value of a text, and the index after its bytes.
-#[derive(Drop)]
+#[derive(Clone, Copy)]
 pub(crate) struct Sequence {
     value: u32,
     next: usize,
