@@ -3,7 +3,7 @@
 -- Assumes nothing.
 use Rattle.std.specs.Prelude.{ℕ, ◌+◌, ◌-◌, ◌*◌, ◌^◌, ◌≡◌, refl, length, take, drop}
 use mathlib.Core.List.{List, [], ◌∷◌, map, flat_map}
-use Rattle.std.proofs.Math.Option.{Option}
+use Rattle.std.specs.Prelude.{Option}
 use Rattle.text.specs.Product.{product_from, product_of}
 use Rattle.text.specs.Result.{Result, ok, error, map_result, or_error, check_output, check_count, check_each, fold_count, fold_range}
 use Rattle.text.specs.Unicode.{utf8, utf16}

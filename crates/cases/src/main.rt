@@ -4,11 +4,8 @@
 
 mod print;
 
-use reader::file_wrapper::{FileWrapper, ParseReply};
-use reader::names::NameReply;
+use reader::file_wrapper::FileWrapper;
 use std::io;
-use text::reply::LengthReply;
-use text::utf8::{LossyReply, Validity};
 
 fn main(rt: HostRuntime) -> io::Result<()> {
     of_utf8(&rt)?;
@@ -122,16 +119,16 @@ fn show(rt: &impl Print, label: &str, bytes: &[u8]) -> io::Result<()> {
     print::bytes(rt, bytes, bytes.len())?;
     let mut out = [0u8; 64];
     match text::utf8::write_lossy(bytes, &mut out) {
-        LossyReply::Written { bytes: n, replaced } => {
+        Ok(size) => {
             print!(rt; " ->")?;
-            print::bytes(rt, &out, n)?;
-            print!(rt; ", replaced {replaced}")?;
+            print::bytes(rt, &out, size.bytes)?;
+            print!(rt; ", replaced {}", size.replaced)?;
         }
-        LossyReply::TooShort(need) => print!(rt; " needs {need}")?,
+        Err(e) => print::refusal(rt, e)?,
     }
     match text::utf8::validate(bytes) {
-        Validity::WellFormed => println!(rt; ", well-formed"),
-        Validity::IllFormed(at) => println!(rt; ", ill-formed at {at}"),
+        Ok(()) => println!(rt; ", well-formed"),
+        Err(e) => println!(rt; ", ill-formed at {}", e.valid_up_to),
     }
 }
 
@@ -140,11 +137,11 @@ fn units(rt: &impl Print, label: &str, list: &[u16], out: &mut [u8]) -> io::Resu
     print::label(rt, label)?;
     print::units(rt, list)?;
     match text::utf16::decode_utf16(list, out) {
-        LengthReply::Length(n) => {
+        Ok(n) => {
             print!(rt; " ->")?;
             print::bytes(rt, out, n)?;
         }
-        LengthReply::Error(e) => print::refusal(rt, e)?,
+        Err(e) => print::refusal(rt, e)?,
     }
     println!(rt)
 }
@@ -154,8 +151,8 @@ fn build(rt: &impl Print, label: &str, objects: u64, out: &mut [u8]) -> io::Resu
     print::label(rt, label)?;
     print!(rt; " {objects}")?;
     match writer::string_object::build_string_filewrapper_metadata(objects, out) {
-        LengthReply::Length(n) => print!(rt; " -> bytes {n}")?,
-        LengthReply::Error(e) => print::refusal(rt, e)?,
+        Ok(n) => print!(rt; " -> bytes {n}")?,
+        Err(e) => print::refusal(rt, e)?,
     }
     println!(rt)
 }
@@ -164,8 +161,8 @@ fn build(rt: &impl Print, label: &str, objects: u64, out: &mut [u8]) -> io::Resu
 fn open(rt: &impl Print, label: &str, blob: &[u8]) -> io::Result<()> {
     print::label(rt, label)?;
     match FileWrapper::parse(blob) {
-        ParseReply::Parsed(w) => print!(rt; " names {}", w.names)?,
-        ParseReply::Error(e) => print::refusal(rt, e)?,
+        Ok(w) => print!(rt; " names {}", w.names)?,
+        Err(e) => print::refusal(rt, e)?,
     }
     println!(rt)
 }
@@ -175,11 +172,11 @@ fn resolve(rt: &impl Print, label: &str, index: u32) -> io::Result<()> {
     print::label(rt, label)?;
     let mut out = [0u8; 64];
     match reader::names::name(&NAMES, index, &mut out) {
-        NameReply::Text { bytes, replaced } => {
-            print::bytes(rt, &out, bytes)?;
-            print!(rt; ", replaced {replaced}")?;
+        Ok(size) => {
+            print::bytes(rt, &out, size.bytes)?;
+            print!(rt; ", replaced {}", size.replaced)?;
         }
-        NameReply::Error(e) => print::refusal(rt, e)?,
+        Err(e) => print::refusal(rt, e)?,
     }
     println!(rt)
 }

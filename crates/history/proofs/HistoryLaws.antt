@@ -1,102 +1,50 @@
 -- The parts of an edit, one edit, the loop over a list of them, and the run from an empty store.
 -- Assumes nothing.
 use Prim.Native.Nat.{ℕ, zero, suc, ◌+◌, ◌*◌, ◌-◌, ◌/◌, ◌≤◌, ◌<◌, min}
-use mathlib.Core.Path.{◌≡◌, refl, sym, ap, ◌∙◌}
+use mathlib.Core.Path.{◌≡◌, refl, sym, ap, subst, ◌∙◌}
 use mathlib.Core.List.{List, [], ◌∷◌, ◌++◌, flat_map}
 use native.Mathlib.Numerals.{add-one}
 use native.Mathlib.Omega.{arith}
-use lib.ListN.{length, get_or, take, drop, set, length-drop, length-append, drop_of_length-le}
-use lib.Seq.{take_all, take-nil, take_at}
-use Rattle.text.specs.Buffer.{put, over}
+use lib.ListN.{length, get_or, drop, length-append}
+use lib.Seq.{take_at}
+use Rattle.std.specs.Prelude.{Ok, IsErr, Result as Reply}
+use Rattle.std.specs.Result.{IsErrAnd}
+use Rattle.text.specs.Buffer.{over}
 use Rattle.text.specs.Errors.{failure_of}
-use Rattle.text.specs.Replies.{length_reply_of}
 use Rattle.text.specs.Result.{Result, ok, error, map_result, check_output, overwritten, ◌>>◌}
 use Rattle.text.specs.declared.error.Failure.{Failure}
 use Rattle.text.specs.declared.error.MatError.{MatError}
-use Rattle.text.specs.declared.reply.LengthReply.{LengthReply}
-use Rattle.text.specs.declared.reply.LengthReply.TheVariants as length_reply
-use Rattle.text.proofs.BufferLaws.{put_none, put_one, SoFar, begins, goes_on, ends}
+use Rattle.text.proofs.BufferLaws.{SoFar, begins, goes_on, ends}
 use Rattle.writer.specs.Array.{payloads}
 use Rattle.writer.specs.FileWrapper.{file_wrapper, build_metadata}
-use Rattle.writer.specs.Replies.{BuildsMetadata}
 use Rattle.writer.specs.Spans.{spans_from}
 use Rattle.writer.proofs.FileWrapperLaws.{length_file_wrapper}
+use Rattle.store.specs.declared.counts.Counts.{Counts}
 use Rattle.store.specs.Store.{Store, store_of}
-use Rattle.store.specs.Edits.{appended, replaced, reply_of, store_after}
-use Rattle.store.specs.Model.{Edit, call, execute}
-use Rattle.store.specs.Replies.{Edits, edit_reply_of}
-use Rattle.store.specs.declared.edits.EditReply.{EditReply}
-use Rattle.store.specs.declared.edits.EditReply.TheVariants as edit_reply
-use Rattle.store.specs.declared.edits.Edited.{Edited}
+use Rattle.store.specs.Edits.{reply_of, store_after}
+use Rattle.store.specs.Model.{Edit, append, replace, call, execute}
+use Rattle.store.specs.Replies.{store_with}
+use Rattle.store.proofs.ReplyLaws.{err_is}
 use Rattle.store.proofs.EditLaws.{edits_agree}
 use Rattle.history.specs.History.{part, edit_of, edit_at, edits_from, edits_in, numbers_of, numbers, Ends, Runs}
 use Rattle.history.specs.Stages.{IsEmpty, RunsEdit}
 use Rattle.history.specs.declared.Ran.{Ran}
-use Rattle.history.specs.declared.RunReply.TheVariants as run
-
--- ---- a part of an argument
-
-module _ (list : List ℕ) (offset len : ℕ) {start count : ℕ} (a : start ≡ offset) (b : count ≡ len) where
-  pub part_none : length list < start → [] ≡ part list offset len
-  part_none h =
-      let k : length list ≤ offset = omega arith in
-      rw (drop_of_length-le list k) (sym (take-nil len))
-
-  pub part_rest : start ≤ length list → length list - start < count → take (length list - start) (drop start list) ≡ part list offset len
-  part_rest h k =
-      rw a (take_all (length list - offset) (drop offset list) (omega (arith, length-drop offset list))
-      ∙ sym (take_all len (drop offset list) (omega (arith, length-drop offset list))))
-
-  pub part_whole : take (start + count - start) (drop start list) ≡ part list offset len
-  part_whole =
-      let e : start + count - start ≡ len = omega arith in
-      rw (e, a)
-
-pub ruleset parting = (part_none, part_rest, part_whole)
 
 -- ---- one edit
 
-module _ (s : Store) (id : ℕ) (dims text spans : List ℕ) {r : Edited} {blob' directory' kinds' words' : List ℕ} where
-  pub kind_append : (kind : ℕ) → kind ≡ 0 → Edits s (appended s dims text spans) r blob' directory' kinds' words'
-      → Edits s (call s (edit_of kind id dims text spans)) r blob' directory' kinds' words'
-  unfolding edit_of call
-  kind_append zero e m = m
-  kind_append (suc k) e m = absurd (omega arith)
+module _ (ops dims text spans : List ℕ) (i : ℕ) {d t p : List ℕ}
+    (ed : d ≡ part dims (get_or ops (8 * i + 2) 0) (get_or ops (8 * i + 3) 0))
+    (et : t ≡ part text (get_or ops (8 * i + 4) 0) (get_or ops (8 * i + 5) 0))
+    (ep : p ≡ part spans (get_or ops (8 * i + 6) 0) (get_or ops (8 * i + 7) 0)) where
+  pub appends : get_or ops (8 * i) 0 ≡ 0 → append d t p ≡ edit_at ops dims text spans i
+  unfolding edit_at edit_of
+  appends e = rw (e, ed, et, ep)
 
-  pub kind_replace : (kind : ℕ) → (kind ≡ 0 → ⊥) → Edits s (replaced s id dims text spans) r blob' directory' kinds' words'
-      → Edits s (call s (edit_of kind id dims text spans)) r blob' directory' kinds' words'
-  unfolding edit_of call
-  kind_replace zero e m = absurd (e refl)
-  kind_replace (suc k) e m = m
-
-pub ruleset kinds_of = (kind_append, kind_replace)
-
-pub editing : (s : Store) (ops dims text spans : List ℕ) (i : ℕ) {dims' text' spans' : List ℕ} {r : Edited} {blob' directory' kinds' words' : List ℕ}
-    → dims' ≡ part dims (get_or ops (8 * i + 2) 0) (get_or ops (8 * i + 3) 0)
-    → text' ≡ part text (get_or ops (8 * i + 4) 0) (get_or ops (8 * i + 5) 0)
-    → spans' ≡ part spans (get_or ops (8 * i + 6) 0) (get_or ops (8 * i + 7) 0)
-    → Edits s (call s (edit_of (get_or ops (8 * i) 0) (get_or ops (8 * i + 1) 0) dims' text' spans')) r blob' directory' kinds' words'
-    → Edits s (call s (edit_at ops dims text spans i)) r blob' directory' kinds' words'
-unfolding edit_at
-editing s ops dims text spans i d t p m = rw (← d, ← t, ← p) m
-
--- ---- a reply
-
-two_put : (d : List ℕ) (at x y : ℕ) → at + 1 < length d → set (set d at x) (at + 1) y ≡ put d at (x ∷ y ∷ [])
-two_put d at x y h =
-    let z : at + 0 ≡ at = omega arith in
-    let a : set d at x ≡ put d at (x ∷ []) = rw (z, put_none d at) at (put_one d at [] x (omega arith)) in
-    ap (λ (l : List ℕ). set l (at + 1) y) a ∙ put_one d at (x ∷ []) y h
-
-module _ (d : List ℕ) (at : ℕ) (h : at + 1 < length d) {reply : EditReply} where
-  pub reply_done : reply ≡ edit_reply.Done → set (set d at 0) (at + 1) 0 ≡ put d at (numbers_of (edit_reply_of reply))
-  reply_done e = rw e (two_put d at 0 0 h)
-
-  pub reply_error : {e : MatError} {f : Failure} → reply ≡ edit_reply.Error e → f ≡ failure_of e
-      → set (set d at f.number) (at + 1) f.place ≡ put d at (numbers_of (edit_reply_of reply))
-  reply_error {e} g k = rw (g, k) (two_put d at (failure_of e).number (failure_of e).place h)
-
-pub ruleset replying = (reply_done, reply_error)
+  pub replaces : (get_or ops (8 * i) 0 ≡ 0 → ⊥) → replace (get_or ops (8 * i + 1) 0) d t p ≡ edit_at ops dims text spans i
+  unfolding edit_at edit_of
+  replaces e =
+      let k : get_or ops (8 * i) 0 ≡ suc (get_or ops (8 * i) 0 - 1) = omega arith in
+      rw (k, ed, et, ep)
 
 -- ---- the loop
 
@@ -129,10 +77,6 @@ pub record Running (s₀ : Store) (ops dims text spans replies₀ : List ℕ) (n
   pub told :
       SoFar (numbers (execute s₀ (edits_from (edit_at ops dims text spans) 0 n)).replies)
       (numbers (execute s (edits_from (edit_at ops dims text spans) i (n - i))).replies) replies₀ replies (2 * i)
-  pub blob : length s.blob ≡ length s₀.blob
-  pub directory : length s.directory ≡ length s₀.directory
-  pub kinds : length s.kinds ≡ length s₀.kinds
-  pub words : length s.words ≡ length s₀.words
 
 module _ (s₀ : Store) (ops dims text spans replies₀ : List ℕ) (n : ℕ) where
   abbrev edit : ℕ → Edit
@@ -141,23 +85,10 @@ module _ (s₀ : Store) (ops dims text spans replies₀ : List ℕ) (n : ℕ) wh
   pub running_start : n ≡ min (length ops / 8) (length replies₀ / 2) → Running s₀ ops dims text spans replies₀ n s₀ replies₀ 0
   running_start e =
       let z : n - 0 ≡ n = omega arith in
-      record {
-        count = e;
-        bound = omega arith;
-        last = rw z;
-        told = rw z (begins (numbers (execute s₀ (edits_from edit 0 n)).replies) replies₀);
-        blob = refl;
-        directory = refl;
-        kinds = refl;
-        words = refl;
-      }
+      record { count = e; bound = omega arith; last = rw z; told = rw z (begins (numbers (execute s₀ (edits_from edit 0 n)).replies) replies₀) }
 
   module _ (s : Store) (replies : List ℕ) (i : ℕ) (v : Running s₀ ops dims text spans replies₀ n s replies i) where
-    module _ (h : i < n) {r : Edited} {blob' directory' kinds' words' replies' : List ℕ}
-        (m : RunsEdit s (edit_at ops dims text spans i) replies i r blob' directory' kinds' words' replies') where
-      abbrev s' : Store
-      s' = store_of r.objects r.blob_bytes r.words blob' directory' kinds' words'
-
+    module _ (h : i < n) {s' : Store} {replies' : List ℕ} (m : RunsEdit s (edit_at ops dims text spans i) replies i s' replies') where
       abbrev rest : List Edit
       rest = edits_from edit (i + 1) (n - (i + 1))
 
@@ -169,15 +100,14 @@ module _ (s₀ : Store) (ops dims text spans replies₀ : List ℕ) (n : ℕ) wh
 
       next_last : (execute s (edit i ∷ rest)).last ≡ (execute s' rest).last
       unfolding execute
-      next_last = ap (λ (t : Store). (execute t rest).last) (sym m.edits.store)
+      next_last = ap (λ (t : Store). (execute t rest).last) (sym m.left)
 
-      next_told : numbers (execute s (edit i ∷ rest)).replies ≡ numbers_of (edit_reply_of r.reply) ++ numbers (execute s' rest).replies
+      next_told : numbers (execute s (edit i ∷ rest)).replies ≡ numbers_of (reply_of (call s (edit i))) ++ numbers (execute s' rest).replies
       unfolding execute flat_map
-      next_told = rw (← m.edits.store, ← m.edits.reply)
+      next_told = rw (← m.left)
 
-      pub running_turn : length blob' ≡ length s.blob → length directory' ≡ length s.directory → length kinds' ≡ length s.kinds → length words' ≡ length s.words
-          → Running s₀ ops dims text spans replies₀ n s' replies' (i + 1)
-      running_turn a b c d =
+      pub running_turn : Running s₀ ops dims text spans replies₀ n s' replies' (i + 1)
+      running_turn =
           let room : length (numbers (execute s₀ (edits_from edit 0 n)).replies) ≤ length replies₀ =
           omega (arith, length_numbers (edits_from edit 0 n) s₀, length_edits edit 0 n, v.count) in
           record {
@@ -186,22 +116,18 @@ module _ (s₀ : Store) (ops dims text spans replies₀ : List ℕ) (n : ℕ) wh
             last = v.last ∙ ap (λ (es : List Edit). (execute s es).last) next ∙ next_last;
             told =
                 goes_on room (record { is = ap (λ (es : List Edit). numbers (execute s es).replies) next ∙ next_told }) v.told replies' (2 * (i + 1)) m.told
-                (omega (arith, two_numbers (edit_reply_of r.reply)));
-            blob = a ∙ v.blob;
-            directory = b ∙ v.directory;
-            kinds = c ∙ v.kinds;
-            words = d ∙ v.words;
+                (omega (arith, two_numbers (reply_of (call s (edit i)))));
           }
 
-module _ (s₀ : Store) (ops dims text spans replies₀ : List ℕ) (n o b u : ℕ) (blob directory kinds words replies : List ℕ) (i : ℕ) (empty : IsEmpty s₀)
-    (v : Running s₀ ops dims text spans replies₀ n (store_of o b u blob directory kinds words) replies i) (h : n ≤ i) where
+module _ (s₀ : Store) (ops dims text spans replies₀ : List ℕ) (n : ℕ) (c : Counts) (blob directory kinds words replies : List ℕ) (i : ℕ) (empty : IsEmpty s₀)
+    (v : Running s₀ ops dims text spans replies₀ n (store_with c blob directory kinds words) replies i) (h : n ≤ i) where
   abbrev all : List Edit
   all = edits_from (edit_at ops dims text spans) 0 n
 
   none : n - i ≡ 0
   none = omega arith
 
-  ran_last : (execute s₀ all).last ≡ store_of o b u blob directory kinds words
+  ran_last : (execute s₀ all).last ≡ store_with c blob directory kinds words
   unfolding execute edits_from
   ran_last = rw none at v.last
 
@@ -209,7 +135,7 @@ module _ (s₀ : Store) (ops dims text spans replies₀ : List ℕ) (n o b u : �
   unfolding execute edits_from flat_map
   ran_told = ends (numbers (execute s₀ all).replies) replies₀ replies (2 * i) (rw none at v.told)
 
-  pub running_last : Ends s₀ (edits_in ops dims text spans (length replies₀)) replies₀ (record { objects = o; blob_bytes = b; words = u; edits = n }) blob directory kinds words replies
+  pub running_last : Ends s₀ (edits_in ops dims text spans (length replies₀)) replies₀ (record { counts = c; edits = n }) blob directory kinds words replies
   running_last = record {
     left = rw (← v.count) (sym ran_last);
     told = rw (← v.count) ran_told;
@@ -217,53 +143,45 @@ module _ (s₀ : Store) (ops dims text spans replies₀ : List ℕ) (n o b u : �
     claim = edits_agree s₀ empty.is (edits_in ops dims text spans (length replies₀));
   }
 
-pub ruleset running = (running_start, running_turn, running_last)
-
 -- ---- the empty store
 
 empty_metadata : (room : ℕ) → build_metadata 0 room ≡ (check_output 144 room >> ok (file_wrapper 0))
 unfolding build_metadata
 empty_metadata room = rw (length_file_wrapper 0)
 
-module _ (blob : List ℕ) {r : LengthReply} {blob' : List ℕ} where
-  built_by : (c : Result (Unit {0})) {n : ℕ} → length_reply_of r ≡ map_result length (c >> ok (file_wrapper 0)) → blob' ≡ overwritten (λ x. x) (c >> ok (file_wrapper 0)) blob
-      → r ≡ length_reply.Length n → (c ≡ ok tt) × (blob' ≡ over (file_wrapper 0) blob)
-  built_by (ok t) m b e = (refl, b)
-  built_by (error f) m b e =
-      let z : ◌≡◌ {A = ℕ} 0 1 = cc in
-      absurd (omega arith)
+-- what building comes to, with c for 34
+module _ (blob : List ℕ) {blob' : List ℕ} where
+  built_by : (c : Result (Unit {0})) {n : ℕ} → ok n ≡ map_result length (c >> ok (file_wrapper 0)) → blob' ≡ overwritten (λ x. x) (c >> ok (file_wrapper 0)) blob
+      → (c ≡ ok tt) × (blob' ≡ over (file_wrapper 0) blob)
+  built_by (ok t) m b = (refl, b)
+  built_by (error f) m b = let z : ◌≡◌ {A = ℕ} 0 1 = cc in absurd (omega arith)
 
-  refused_by : (c : Result (Unit {0})) {f : MatError} → length_reply_of r ≡ map_result length (c >> ok (file_wrapper 0)) → blob' ≡ overwritten (λ x. x) (c >> ok (file_wrapper 0)) blob
-      → r ≡ length_reply.Error f → (c ≡ error (failure_of f)) × (blob' ≡ blob)
-  refused_by (error f) m b e = (cc, b)
-  refused_by (ok t) m b e =
-      let z : ◌≡◌ {A = ℕ} 0 1 = cc in
-      absurd (omega arith)
+  refused_by : (c : Result (Unit {0})) {f : Failure} → error f ≡ map_result length (c >> ok (file_wrapper 0)) → blob' ≡ overwritten (λ x. x) (c >> ok (file_wrapper 0)) blob
+      → (c ≡ error f) × (blob' ≡ blob)
+  refused_by (error g) m b = (cc, b)
+  refused_by (ok t) m b = let z : ◌≡◌ {A = ℕ} 0 1 = cc in absurd (omega arith)
 
-  module _ (m : BuildsMetadata 0 blob r blob') where
-    built : {n : ℕ} → r ≡ length_reply.Length n → (check_output 144 (length blob) ≡ ok tt) × (blob' ≡ over (file_wrapper 0) blob)
-    built e = built_by (check_output 144 (length blob)) (rw (empty_metadata (length blob)) at m.reply) (rw (empty_metadata (length blob)) at m.buffer) e
+  module _ {n : ℕ} (m : ok n ≡ map_result length (build_metadata 0 (length blob))) (b : blob' ≡ overwritten (λ x. x) (build_metadata 0 (length blob)) blob) (directory kinds words : List ℕ) where
+    built : (check_output 144 (length blob) ≡ ok tt) × (blob' ≡ over (file_wrapper 0) blob)
+    built = built_by (check_output 144 (length blob)) (rw (empty_metadata (length blob)) at m) (rw (empty_metadata (length blob)) at b)
 
-    refused : {f : MatError} → r ≡ length_reply.Error f → (check_output 144 (length blob) ≡ error (failure_of f)) × (blob' ≡ blob)
-    refused e = refused_by (check_output 144 (length blob)) (rw (empty_metadata (length blob)) at m.reply) (rw (empty_metadata (length blob)) at m.buffer) e
+    pub run_begins : IsEmpty (store_of 0 144 0 blob' directory kinds words)
+    unfolding payloads spans_from flat_map
+    run_begins =
+        let w = file_wrapper 0 in
+        rw built.1 (record { is = rw (take_at w (drop (length w) blob) 144 (length_file_wrapper 0), ← length_file_wrapper 0) })
 
-    module _ (directory kinds words : List ℕ) where
-      pub run_begins : {n : ℕ} → r ≡ length_reply.Length n → IsEmpty (store_of 0 144 0 blob' directory kinds words)
-      unfolding payloads spans_from flat_map
-      run_begins e =
-          let w = file_wrapper 0 in
-          rw (built e).1 (record { is = rw (take_at w (drop (length w) blob) 144 (length_file_wrapper 0), ← length_file_wrapper 0) })
+    pub run_done : {es : List Edit} {replies : List ℕ} {ran : Ran} {b' d' k' w' replies' : List ℕ} → Ends (store_of 0 144 0 blob' directory kinds words) es replies ran b' d' k' w' replies'
+        → Runs blob directory kinds words es replies (Ok ran) b' d' k' w' replies'
+    run_done l = record { reply = sym built.0; leaves = rw built.1 at l }
 
-      module _ (es : List Edit) (replies : List ℕ) where
-        pub run_done : {n : ℕ} {ran : Ran} {b' d' k' w' replies' : List ℕ} → r ≡ length_reply.Length n
-            → Ends (store_of 0 144 0 blob' directory kinds words) es replies ran b' d' k' w' replies'
-            → Runs blob directory kinds words es replies (run.Done ran) b' d' k' w' replies'
-        run_done e l = record { reply = sym (built e).0; leaves = rw (built e).1 at l }
-
-        pub run_error : {f : MatError} → r ≡ length_reply.Error f → Runs blob directory kinds words es replies (run.Error f) blob' directory kinds words replies
-        run_error e = record {
-          reply = sym (refused e).0;
-          leaves = record { same_blob = (refused e).1; same_directory = refl; same_kinds = refl; same_words = refl; same_replies = refl };
-        }
-
-pub ruleset from_empty = (run_begins, run_done, run_error)
+  pub run_refused : (f : MatError) → error (failure_of f) ≡ map_result length (build_metadata 0 (length blob)) → blob' ≡ overwritten (λ x. x) (build_metadata 0 (length blob)) blob
+      → (directory kinds words : List ℕ) (es : List Edit) (replies : List ℕ) (r : Reply Ran MatError) → IsErr r × IsErrAnd r (λ y. y ≡ f)
+      → Runs blob directory kinds words es replies r blob' directory kinds words replies
+  run_refused f m b directory kinds words es replies r p =
+      let k = refused_by (check_output 144 (length blob)) (rw (empty_metadata (length blob)) at m) (rw (empty_metadata (length blob)) at b) in
+      subst (λ (x : Reply Ran MatError). Runs blob directory kinds words es replies x blob' directory kinds words replies) (sym (err_is r f p))
+      (record {
+        reply = sym k.0;
+        leaves = record { same_blob = k.1; same_directory = refl; same_kinds = refl; same_words = refl; same_replies = refl };
+      })

@@ -1,21 +1,22 @@
 -- A list of edits in lent buffers, and what a run of it from an empty store comes to.
 -- Assumes nothing.
-use Rattle.std.specs.Prelude.{ℕ, zero, suc, ◌+◌, ◌*◌, ◌/◌, min, ◌≡◌, length, get_or, take, drop}
+use Rattle.std.specs.Prelude.{ℕ, zero, suc, ◌+◌, ◌*◌, ◌/◌, min, ◌≡◌, length, get_or, take, drop, Ok, Err, Result as Reply}
 use mathlib.Core.List.{List, [], ◌∷◌, flat_map}
 use Rattle.text.specs.Buffer.{over}
-use Rattle.text.specs.Errors.{failure_of}
+use Rattle.text.specs.Replies.{outcome}
 use Rattle.text.specs.Result.{Result, ok, error, check_output}
+use Rattle.text.specs.declared.error.MatError.{MatError}
 use Rattle.writer.specs.FileWrapper.{file_wrapper}
 use Rattle.store.specs.Store.{Store, store_of}
+use Rattle.store.specs.Edits.{reply_of}
 use Rattle.store.specs.Model.{Edit, append, replace, execute, Edited}
+use Rattle.store.specs.Replies.{store_with}
 use Rattle.history.specs.declared.Ran.{Ran}
-use Rattle.history.specs.declared.RunReply.{RunReply}
-use Rattle.history.specs.declared.RunReply.TheVariants as run
 
 -- ---- the list of edits
 
 -- len elements of a list from offset on, or as many as there are
-abbrev pub part : List ℕ → ℕ → ℕ → List ℕ
+abbrev pub part : {A : Type 0} → List A → ℕ → ℕ → List A
 part list offset len = take len (drop offset list)
 
 -- kind 0 appends, any other replaces
@@ -60,7 +61,7 @@ empty_store blob directory kinds words = store_of 0 144 0 (over (file_wrapper 0)
 -- the edits es, run on the store s: the counts and the whole buffers that are left, the replies over the front of their buffer, and the claim of
 -- demand 3 about that store and those replies
 pub record Ends (s : Store) (es : List Edit) (replies : List ℕ) (r : Ran) (blob' directory' kinds' words' replies' : List ℕ) : Type 0 where
-  pub left : store_of r.objects r.blob_bytes r.words blob' directory' kinds' words' ≡ (execute s es).last
+  pub left : store_with r.counts blob' directory' kinds' words' ≡ (execute s es).last
   pub told : replies' ≡ over (numbers (execute s es).replies) replies
   pub count : r.edits ≡ length es
   pub claim : Edited s es (execute s es).last (execute s es).replies
@@ -73,19 +74,14 @@ pub record Keeps (blob directory kinds words replies blob' directory' kinds' wor
   pub same_words : words' ≡ words
   pub same_replies : replies' ≡ replies
 
--- whether the run was made
-abbrev pub run_reply_of : RunReply → Result (Unit {0})
-run_reply_of (run.Done r) = ok tt
-run_reply_of (run.Error e) = error (failure_of e)
-
 -- what a run leaves, by its reply
-abbrev pub Leaves : List ℕ → List ℕ → List ℕ → List ℕ → List Edit → List ℕ → RunReply → List ℕ → List ℕ → List ℕ → List ℕ → List ℕ → Type 0
-Leaves blob directory kinds words es replies (run.Done r) blob' directory' kinds' words' replies' =
+abbrev pub Leaves : List ℕ → List ℕ → List ℕ → List ℕ → List Edit → List ℕ → Reply Ran MatError → List ℕ → List ℕ → List ℕ → List ℕ → List ℕ → Type 0
+Leaves blob directory kinds words es replies (Ok r) blob' directory' kinds' words' replies' =
     Ends (empty_store blob directory kinds words) es replies r blob' directory' kinds' words' replies'
-Leaves blob directory kinds words es replies (run.Error e) blob' directory' kinds' words' replies' =
+Leaves blob directory kinds words es replies (Err e) blob' directory' kinds' words' replies' =
     Keeps blob directory kinds words replies blob' directory' kinds' words' replies'
 
 -- a run in lent buffers: 34 for the blob of the empty store, then the claim for the empty store, or nothing written
-pub record Runs (blob directory kinds words : List ℕ) (es : List Edit) (replies : List ℕ) (r : RunReply) (blob' directory' kinds' words' replies' : List ℕ) : Type 0 where
-  pub reply : run_reply_of r ≡ check_output 144 (length blob)
+pub record Runs (blob directory kinds words : List ℕ) (es : List Edit) (replies : List ℕ) (r : Reply Ran MatError) (blob' directory' kinds' words' replies' : List ℕ) : Type 0 where
+  pub reply : reply_of (outcome r) ≡ check_output 144 (length blob)
   pub leaves : Leaves blob directory kinds words es replies r blob' directory' kinds' words' replies'

@@ -4,9 +4,9 @@
 
 ghost use Rattle.std.specs.Prelude.{◌≡◌, length};
 
-use history::{Ran, RunReply, part, run_edits, text_part};
+use history::{EditList, Ran, part, run_edits};
 use reader::decode::decode_string;
-use reader::saveobj::StringsReply;
+use reader::saveobj::DecodedSize;
 use reader::string_objects::decode_string_object;
 use std::io;
 use text::error::MatError;
@@ -34,21 +34,26 @@ fn print_replies(rt: &impl Print, replies: &[u64]) -> io::Result<()> {
 fn print_strings(rt: &impl Print, text: &[u8], spans: &[u64]) -> io::Result<()> {
     for i in 0..spans.len() / 2 {
         rt.write_all(b" \"")?;
-        rt.write_all(text_part(text, spans[2 * i], spans[2 * i + 1]))?;
+        rt.write_all(part(text, spans[2 * i], spans[2 * i + 1]))?;
         rt.write_all(b"\"")?;
     }
     println!(rt)
 }
 
-fn print_read(rt: &impl Print, reply: StringsReply, text: &[u8], spans: &[u64]) -> io::Result<()> {
+fn print_read(
+    rt: &impl Print,
+    reply: Result<DecodedSize, MatError>,
+    text: &[u8],
+    spans: &[u64],
+) -> io::Result<()> {
     match reply {
-        StringsReply::Strings { bytes: _, strings } => {
-            if strings <= spans.len() / 2 {
-                print_strings(rt, text, &spans[0..2 * strings])?;
+        Ok(size) => {
+            if size.strings <= spans.len() / 2 {
+                print_strings(rt, text, &spans[0..2 * size.strings])?;
             }
             Ok(())
         }
-        StringsReply::Error(e) => print_error(rt, e),
+        Err(e) => print_error(rt, e),
     }
 }
 
@@ -140,17 +145,17 @@ fn print_run(
     print_replies(rt, replies)?;
     println!(rt;
         "objects {}, blob bytes {}, words {}",
-        ran.objects, ran.blob_bytes, ran.words
+        ran.counts.objects, ran.counts.blob_bytes, ran.counts.words
     )?;
-    if (kinds.len() as u64) < ran.objects {
+    if (kinds.len() as u64) < ran.counts.objects {
         return Ok(());
     }
     print_objects(
         rt,
-        text_part(blob, 0, ran.blob_bytes),
-        part(directory, 0, 2 * ran.objects),
-        text_part(kinds, 0, ran.objects),
-        part(words, 0, ran.words),
+        part(blob, 0, ran.counts.blob_bytes),
+        part(directory, 0, 2 * ran.counts.objects),
+        part(kinds, 0, ran.counts.objects),
+        part(words, 0, ran.counts.words),
     )
 }
 
@@ -166,10 +171,14 @@ fn main(rt: HostRuntime) -> io::Result<()> {
     let dims: &[u64] = &[1, 1, 1, 2, 2, 2, 2, 0];
     let text: &[u8] = b"0 L184.5F\xC3\xBCllstand\xE2\x9B\xBD\xF0\x9F\x9A\x97184.5 Liter37A\xFF";
     let spans: &[u64] = &[0, 3, 0, 5, 0, 10, 10, 7, 0, 11, 36, 2, 0, 2];
-    match run_edits(
-        blob, directory, kinds, words, ops, dims, text, spans, replies,
-    ) {
-        RunReply::Done(ran) => print_run(&rt, ran, blob, directory, kinds, words, replies),
-        RunReply::Error(e) => print_error(&rt, e),
+    let edits = EditList {
+        ops,
+        dims,
+        text,
+        spans,
+    };
+    match run_edits(blob, directory, kinds, words, edits, replies) {
+        Ok(ran) => print_run(&rt, ran, blob, directory, kinds, words, replies),
+        Err(e) => print_error(&rt, e),
     }
 }

@@ -9,29 +9,9 @@
 // alone, which are the shortest blobs that open and the shortest that does not.
 #![tactic(auto)]
 
-ghost use Rattle.std.specs.Prelude.{◌≡◌, ◌<◌};
-
+use printing::input::read_full;
 use std::io;
 use std::io::Read;
-
-fn wide(byte: u8) -> usize
-    ensures { (result ≡ byte) × (result < 256) }
-{
-    byte as usize
-}
-
-// Reads until buf is full or the input ends, and returns how many bytes came.
-fn read_full(reader: &mut impl Read, buf: &mut [u8]) -> io::Result<usize> {
-    let mut n: usize = 0;
-    while n < buf.len() {
-        let got = reader.read(&mut buf[n..])?;
-        if got == 0 {
-            return Ok(n);
-        }
-        n += got;
-    }
-    Ok(n)
-}
 
 // Reads the next blob and lists it, and answers whether there was one.
 fn list_next(
@@ -43,7 +23,7 @@ fn list_next(
     if read_full(input, head)? < 4 {
         return Ok(false);
     }
-    let n = wide(head[0]) + 256 * wide(head[1]) + 65536 * wide(head[2]);
+    let n = u32::from_le_bytes([head[0], head[1], head[2], 0]) as usize;
     if blob.len() < n {
         return Ok(false);
     }

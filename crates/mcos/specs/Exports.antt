@@ -1,14 +1,16 @@
 -- What the calls for C promise of the answer's number, of the cells of the values and of the place, and of output buffers.
 -- Assumes nothing.
+use Rattle.std.specs.Option.{unwrap_or}
 use Rattle.std.specs.Prelude.{ℕ, ◌≡◌, List, [], ◌∷◌, length, get_or}
-use Rattle.std.proofs.Math.Option
-use Rattle.std.proofs.Math.Option.{Option, some, none}
+use Rattle.std.specs.Prelude.{Option, Some, None}
 use Rattle.text.specs.Result.{Result, ok, error, overwritten}
 use Rattle.writer.specs.Array.{Array}
 use Rattle.writer.specs.Spans.{joined, spans_from}
 use Rattle.reader.specs.Names.{ShownText, shown_bytes}
 use Rattle.reader.specs.Queries.{into_text}
-use Rattle.reader.specs.Replies.{DecodedSize, size_of, TextSize, text_size_of}
+use Rattle.text.specs.declared.utf8.LossySize.{LossySize}
+use Rattle.reader.specs.Replies.{size_of, text_size_of}
+use Rattle.reader.specs.declared.saveobj.DecodedSize.{DecodedSize}
 use Rattle.reader.specs.declared.file_wrapper.FileWrapper.{FileWrapper}
 use Rattle.reader.specs.declared.labels.Part.{Part}
 use Rattle.reader.specs.declared.labels.Source.{Source}
@@ -16,7 +18,7 @@ use Rattle.reader.specs.declared.labels.Source.TheVariants as source
 use Rattle.reader.specs.declared.opaque.OpaqueMetadata.{OpaqueMetadata}
 use Rattle.store.specs.Edits.{store_after}
 use Rattle.store.specs.Store.{Store, store_of}
-use Rattle.store.specs.declared.edits.Edited.{Edited}
+use Rattle.store.specs.declared.counts.Counts.{Counts}
 
 -- 0, or the number of the check that does not hold
 abbrev pub number_of : {A : Type 0} → Result A → ℕ
@@ -45,11 +47,11 @@ pub record ExportsList {A B : Type 0} (f : List A → List B) (m : ℕ → Resul
   pub buffer : out' ≡ overwritten f (m (length out)) out
 
 -- the cells of a text's bytes and of the replacement characters in it, together
-abbrev pub text_cells : ℕ → ℕ → TextSize
+abbrev pub text_cells : ℕ → ℕ → LossySize
 text_cells bytes replaced = record { bytes = bytes; replaced = replaced }
 
 -- a text as it is shown, with its cells; the call comes to m of the buffer's length
-pub record ExportsText (m : ℕ → Result ShownText) (out : List ℕ) (cells : TextSize) (place r : ℕ) (out' : List ℕ) (cells' : TextSize) (place' : ℕ) : Type 0 where
+pub record ExportsText (m : ℕ → Result ShownText) (out : List ℕ) (cells : LossySize) (place r : ℕ) (out' : List ℕ) (cells' : LossySize) (place' : ℕ) : Type 0 where
   pub exports : Exports text_size_of (m (length out)) cells place r cells' place'
   pub buffer : out' ≡ overwritten (λ t. t.text) (m (length out)) out
 
@@ -85,21 +87,25 @@ part_cells p = source_cell p.source ∷ p.start ∷ p.length ∷ []
 
 -- 1 where there is a position, else 0
 abbrev pub found_of : Option ℕ → ℕ
-found_of (some i) = 1
-found_of none = 0
+found_of (Some i) = 1
+found_of None = 0
 
 -- whether there is a position, and the position: its cell is written only where there is one
 pub record ExportsFound (m : Result (Option ℕ)) (found position place r found' position' place' : ℕ) : Type 0 where
   pub exports : Exports found_of m found place r found' place'
-  pub position_after : position' ≡ value_after (λ p. Option.get_or p position) m position
+  pub position_after : position' ≡ value_after (λ p. unwrap_or p position) m position
 
 -- the cells of the first id's position, the number of ids and the class id, together
 abbrev pub opaque_cells : ℕ → ℕ → ℕ → OpaqueMetadata
 opaque_cells first ids class = record { first_id = first; ids = ids; class_id = class }
 
--- the cells of a store's counts after an edit: objects, blob bytes, words
-abbrev pub edit_cells : Edited → List ℕ
-edit_cells e = e.objects ∷ e.blob_bytes ∷ e.words ∷ []
+-- the cells of a store's counts: objects, blob bytes, words
+abbrev pub count_list : Counts → List ℕ
+count_list c = c.objects ∷ c.blob_bytes ∷ c.words ∷ []
+
+-- the counts by their cells
+abbrev pub counts_in : List ℕ → Counts
+counts_in cells = record { objects = get_or cells 0 0; blob_bytes = get_or cells 1 0; words = get_or cells 2 0 }
 
 -- a store by the cells of its counts and its buffers
 abbrev pub store_in : List ℕ → List ℕ → List ℕ → List ℕ → List ℕ → Store

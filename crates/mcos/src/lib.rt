@@ -5,7 +5,7 @@
 ghost use Rattle.std.specs.Prelude.{◌≡◌};
 ghost use Rattle.text.specs.Errors.{failure_of};
 ghost use Rattle.text.specs.Latin9.{export_latin9, import_latin9};
-ghost use Rattle.text.specs.Replies.{length_reply_of};
+ghost use Rattle.text.specs.Replies.{outcome};
 ghost use Rattle.text.specs.Utf16.{decode_utf16};
 ghost use Rattle.writer.specs.Array.{encode_payload};
 ghost use Rattle.writer.specs.FileWrapper.{build_metadata};
@@ -17,28 +17,24 @@ ghost use Rattle.reader.specs.Objects.{find_property, object_rows, object_proper
 ghost use Rattle.reader.specs.Opaque.{opaque_metadata};
 ghost use Rattle.reader.specs.Opening.{opened};
 ghost use Rattle.reader.specs.Queries.{into_output, into_text, name_text, class_text, object_class_text};
-ghost use Rattle.reader.specs.Replies.{name_reply_of, strings_reply_of};
 ghost use Rattle.reader.specs.Saveobj.{decode_payload, into_strings};
 ghost use Rattle.store.specs.Edits.{appended, replaced};
-ghost use Rattle.store.specs.Replies.{edit_reply_of};
-ghost use Rattle.mcos.specs.Exports.{count_cells, edit_cells, layout_of, opaque_cells, part_cells, source_cell, store_in, text_cells, Exports, ExportsEdit, ExportsFound, ExportsList, ExportsLossy, ExportsStrings, ExportsText};
+ghost use Rattle.mcos.specs.Exports.{count_cells, count_list, counts_in, layout_of, opaque_cells, part_cells, source_cell, store_in, text_cells, Exports, ExportsEdit, ExportsFound, ExportsList, ExportsLossy, ExportsStrings, ExportsText};
 
-use reader::file_wrapper::{FileWrapper, ParseReply};
-use reader::find::FindReply;
-use reader::labels::{LabelReply, Part, Source};
-use reader::names::NameReply;
+use reader::file_wrapper::FileWrapper;
+use reader::labels::{Part, Source};
 use reader::objects::ObjectRow;
-use reader::opaque::OpaqueReply;
 use reader::properties::ROW_WIDTH;
-use reader::saveobj::StringsReply;
+use reader::saveobj::DecodedSize;
 use reader::{
     classes, decode, find, labels, listing, names, opaque, properties, saveobj, string_objects,
 };
-use store::edits::{EditReply, Edited};
-use store::{append, replace};
+use store::append::append_at;
+use store::array::StringArray;
+use store::counts::Counts;
+use store::replace::replace_at;
 use text::error::MatError;
-use text::reply::LengthReply;
-use text::utf8::LossyReply;
+use text::utf8::LossySize;
 use text::{latin9, utf8, utf16};
 use writer::string_object;
 
@@ -53,64 +49,78 @@ fn put_error(e: MatError, place: &mut u64) -> u32
 }
 
 // Each of these writes what a reply says, its value or its place, and gives its number.
-fn put_length(reply: LengthReply, length: &mut u64, place: &mut u64) -> u32
-    ensures { Exports (λ x. x) (length_reply_of reply) length.old place.old result
+fn put_length(reply: Result<usize, MatError>, length: &mut u64, place: &mut u64) -> u32
+    ensures { Exports (λ x. x) (outcome reply) length.old place.old result
         length.new place.new }
 {
     match reply {
-        LengthReply::Length(n) => {
+        Ok(n) => {
             *length = n as u64;
             0
         }
-        LengthReply::Error(e) => put_error(e, place),
+        Err(e) => put_error(e, place),
     }
 }
 
-fn put_name(reply: NameReply, bytes: &mut u64, replaced: &mut u64, place: &mut u64) -> u32
-    ensures { Exports (λ x. x) (name_reply_of reply) (text_cells bytes.old replaced.old) place.old
+fn put_text(
+    reply: Result<LossySize, MatError>,
+    bytes: &mut u64,
+    replaced: &mut u64,
+    place: &mut u64,
+) -> u32
+    ensures { Exports (λ x. x) (outcome reply) (text_cells bytes.old replaced.old) place.old
         result (text_cells bytes.new replaced.new) place.new }
 {
     match reply {
-        NameReply::Text {
-            bytes: b,
-            replaced: n,
-        } => {
-            *bytes = b as u64;
-            *replaced = n as u64;
+        Ok(size) => {
+            *bytes = size.bytes as u64;
+            *replaced = size.replaced as u64;
             0
         }
-        NameReply::Error(e) => put_error(e, place),
+        Err(e) => put_error(e, place),
     }
 }
 
-fn put_strings(reply: StringsReply, bytes: &mut u64, strings: &mut u64, place: &mut u64) -> u32
-    ensures { Exports (λ x. x) (strings_reply_of reply) (count_cells bytes.old strings.old) place.old
+fn put_strings(
+    reply: Result<DecodedSize, MatError>,
+    bytes: &mut u64,
+    strings: &mut u64,
+    place: &mut u64,
+) -> u32
+    ensures { Exports (λ x. x) (outcome reply) (count_cells bytes.old strings.old) place.old
         result (count_cells bytes.new strings.new) place.new }
 {
     match reply {
-        StringsReply::Strings {
-            bytes: b,
-            strings: n,
-        } => {
-            *bytes = b as u64;
-            *strings = n as u64;
+        Ok(size) => {
+            *bytes = size.bytes as u64;
+            *strings = size.strings as u64;
             0
         }
-        StringsReply::Error(e) => put_error(e, place),
+        Err(e) => put_error(e, place),
     }
 }
 
-fn put_edit(e: Edited, counts: &mut [u64; 3], place: &mut u64) -> u32
-    ensures { Exports (λ _. edit_cells e) (edit_reply_of e.reply) counts.old place.old
-        result counts.new place.new }
+fn put_counts(reply: Result<Counts, MatError>, counts: &mut [u64; 3], place: &mut u64) -> u32
+    ensures { Exports count_list (outcome reply) counts.old place.old result
+        counts.new place.new }
 {
-    let reply = e.reply;
     match reply {
-        EditReply::Done => {
-            *counts = [e.objects, e.blob_bytes, e.words];
+        Ok(c) => {
+            *counts = [c.objects, c.blob_bytes, c.words];
             0
         }
-        EditReply::Error(error) => put_error(error, place),
+        Err(e) => put_error(e, place),
+    }
+}
+
+// The counts of a store by their cells.
+fn counts_of(cells: [u64; 3]) -> Counts
+    ensures { result ≡ counts_in cells }
+{
+    Counts {
+        objects: cells[0],
+        blob_bytes: cells[1],
+        words: cells[2],
     }
 }
 
@@ -139,20 +149,7 @@ pub extern "C" fn mcos_write_lossy(
     ensures { ExportsLossy s.now out.old bytes.old replaced.old place.old
         result out.new bytes.new replaced.new place.new }
 {
-    match utf8::write_lossy(s, out) {
-        LossyReply::Written {
-            bytes: b,
-            replaced: n,
-        } => {
-            *bytes = b as u64;
-            *replaced = n as u64;
-            0
-        }
-        LossyReply::TooShort(need) => {
-            *place = need as u64;
-            34
-        }
-    }
+    put_text(utf8::write_lossy(s, out), bytes, replaced, place)
 }
 
 #[unsafe(no_mangle)]
@@ -272,11 +269,11 @@ pub extern "C" fn mcos_parse(blob: &[u8], layout: &mut [u64; 13], place: &mut u6
         result layout.new place.new }
 {
     match FileWrapper::parse(blob) {
-        ParseReply::Parsed(w) => {
+        Ok(w) => {
             *layout = layout_of(w);
             0
         }
-        ParseReply::Error(e) => put_error(e, place),
+        Err(e) => put_error(e, place),
     }
 }
 
@@ -294,7 +291,7 @@ pub extern "C" fn mcos_name(
         let cells' = text_cells bytes.new replaced.new in
         ExportsText m text.old cells place.old result text.new cells' place.new }
 {
-    put_name(names::name(blob, index, text), bytes, replaced, place)
+    put_text(names::name(blob, index, text), bytes, replaced, place)
 }
 
 // The cell of a part's buffer.
@@ -326,11 +323,11 @@ pub extern "C" fn mcos_label(
         Exports part_cells m part.old place.old result part.new place.new }
 {
     match labels::label_source(blob, placeholder, index) {
-        LabelReply::Part(p) => {
+        Ok(p) => {
             *part = part_cells(p);
             0
         }
-        LabelReply::Error(e) => put_error(e, place),
+        Err(e) => put_error(e, place),
     }
 }
 
@@ -348,7 +345,7 @@ pub extern "C" fn mcos_class_name(
         let cells' = text_cells bytes.new replaced.new in
         ExportsText m text.old cells place.old result text.new cells' place.new }
 {
-    put_name(
+    put_text(
         classes::class_name(blob, class_id, text),
         bytes,
         replaced,
@@ -370,7 +367,7 @@ pub extern "C" fn mcos_object_class_name(
         let cells' = text_cells bytes.new replaced.new in
         ExportsText m text.old cells place.old result text.new cells' place.new }
 {
-    put_name(
+    put_text(
         classes::object_class_name(blob, object_id, text),
         bytes,
         replaced,
@@ -407,16 +404,16 @@ pub extern "C" fn mcos_find_property(
         result found.new position.new place.new }
 {
     match find::find_property(blob, object_id, wanted) {
-        FindReply::Found(i) => {
+        Ok(Some(i)) => {
             *found = 1;
             *position = i as u64;
             0
         }
-        FindReply::NotFound => {
+        Ok(None) => {
             *found = 0;
             0
         }
-        FindReply::Error(e) => put_error(e, place),
+        Err(e) => put_error(e, place),
     }
 }
 
@@ -447,13 +444,13 @@ pub extern "C" fn mcos_parse_opaque_metadata(
         Exports (λ x. x) (opaque_metadata metadata.now) cells place.old result cells' place.new }
 {
     match opaque::parse_opaque_metadata(metadata) {
-        OpaqueReply::Parsed(m) => {
+        Ok(m) => {
             *first_id = m.first_id as u64;
             *ids = m.ids as u64;
             *class_id = m.class_id;
             0
         }
-        OpaqueReply::Error(e) => put_error(e, place),
+        Err(e) => put_error(e, place),
     }
 }
 
@@ -548,13 +545,9 @@ pub extern "C" fn mcos_append(
         ExportsEdit s (appended s dims.now text.now spans.now)
         place.old result t place.new }
 {
-    put_edit(
-        append::append_at(
-            counts[0], counts[1], counts[2], blob, directory, kinds, words, dims, text, spans,
-        ),
-        counts,
-        place,
-    )
+    let array = StringArray { dims, text, spans };
+    let reply = append_at(counts_of(*counts), blob, directory, kinds, words, array);
+    put_counts(reply, counts, place)
 }
 
 #[unsafe(no_mangle)]
@@ -575,12 +568,15 @@ pub extern "C" fn mcos_replace(
         ExportsEdit s (replaced s object_id dims.now text.now spans.now)
         place.old result t place.new }
 {
-    put_edit(
-        replace::replace_at(
-            counts[0], counts[1], counts[2], blob, directory, kinds, words, object_id, dims, text,
-            spans,
-        ),
-        counts,
-        place,
-    )
+    let array = StringArray { dims, text, spans };
+    let reply = replace_at(
+        counts_of(*counts),
+        blob,
+        directory,
+        kinds,
+        words,
+        object_id,
+        array,
+    );
+    put_counts(reply, counts, place)
 }

@@ -1,71 +1,32 @@
 -- The laws of an output buffer.
 -- Assumes nothing.
 use mathlib.Core.Path.{◌≡◌, ap, ◌∙◌}
-use mathlib.Core.Bool.{Bool}
-use mathlib.Core.List.{List}
-use Prim.Native.Nat.{ℕ, ◌+◌, ◌-◌, ◌≤◌, ◌<◌}
+use mathlib.Core.List.{List, ◌++◌}
+use Prim.Native.Nat.{ℕ, ◌+◌, ◌-◌, ◌≤◌}
 use native.Mathlib.Omega.{arith}
-use borrow.Author.Tests.{le-leb, lt-leb}
 use borrow.Rule.Slice.PartMut.{mid_of, put_mid}
-use lib.ListN.{length}
-use Rattle.text.specs.Buffer.{put}
+use lib.ListN.{length, take, drop, length-take, length-drop}
+use Rattle.std.specs.Prelude.{Result as Reply}
+use Rattle.std.specs.Result.{result_unwrap_or}
 use Rattle.text.specs.declared.error.MatError.{MatError}
-use Rattle.text.proofs.BufferLaws.{part_put, length_put}
-use Rattle.printing.specs.Lines.{escaped, line_text, WritesPart}
-use Rattle.printing.specs.declared.lines.LinePart.{LinePart}
-use Rattle.text.specs.declared.reply.LengthReply.{LengthReply}
-use Rattle.text.specs.declared.reply.LengthReply.TheVariants as reply
-use Rattle.printing.proofs.lines.Laws.{escaped_most, part_most, text_puts, text_never}
-use Rattle.printing.specs.Output.{start_of, Ready, Adds, MakesRoom, Copies}
-use Rattle.printing.specs.declared.output.Output.{Output}
+use Rattle.text.proofs.BufferLaws.{part_put, take_put}
+use Rattle.printing.specs.Lines.{WritesPart}
+use Rattle.printing.specs.Output.{start_of, Adds}
+use Rattle.printing.proofs.lines.Laws.{text_puts}
 
--- ---- room
-
-module _ (out : List ℕ) (o : Output) (h : Ready o out) where
-  pub room_there : 4096 ≤ length out - o.used → MakesRoom out o o
-  unfolding start_of
-  room_there t = record { place = simp (le-leb 4096 (length out - o.used) t); room = omega arith }
-
-  pub room_made : length out - o.used < 4096 → {r : Output} → r.used ≡ 0 → MakesRoom out o r
-  unfolding start_of
-  room_made t z = record { place = simp (lt-leb 4096 (length out - o.used) t) z; room = omega arith }
-
--- ---- a text at the start of an output
-
-module _ (p : LinePart) (out : List ℕ) (h : 4096 ≤ length out) where
-  part_fits : length (line_text p) ≤ length out
-  part_fits = omega (arith, part_most p)
-
-  pub part_copied : {x : LengthReply} {out' : List ℕ} {n : ℕ} → x ≡ reply.Length n → WritesPart (line_text p) out x out' → Copies (line_text p) out n out'
-  part_copied g w =
-      let q = text_puts (line_text p) out part_fits g w in
-      record { puts = q; few = omega (arith, q.end, part_most p) }
-
-  pub part_never : {x : LengthReply} {out' : List ℕ} {e : MatError} → x ≡ reply.Error e → WritesPart (line_text p) out x out' → Copies (line_text p) out 0 out'
-  part_never g w = record { puts = text_never (line_text p) out part_fits g w; few = omega arith }
-
-module _ (s out : List ℕ) (l : length s ≤ 1365) (h : 4096 ≤ length out) where
-  shown_fits : length (escaped s) ≤ length out
-  shown_fits = omega (arith, escaped_most s)
-
-  pub chunk_copied : {x : LengthReply} {out' : List ℕ} {n : ℕ} → x ≡ reply.Length n → WritesPart (escaped s) out x out' → Copies (escaped s) out n out'
-  chunk_copied g w =
-      let q = text_puts (escaped s) out shown_fits g w in
-      record { puts = q; few = omega (arith, q.end, escaped_most s) }
-
-  pub chunk_never : {x : LengthReply} {out' : List ℕ} {e : MatError} → x ≡ reply.Error e → WritesPart (escaped s) out x out' → Copies (escaped s) out 0 out'
-  chunk_never g w = record { puts = text_never (escaped s) out shown_fits g w; few = omega arith }
-
--- ---- a text in the part of the buffer that is free
-
-pub added : (w out : List ℕ) (o room : Output) {n : ℕ} {f : Bool} {part' : List ℕ} → Ready o out → MakesRoom out o room
-    → Copies w (mid_of room.used (length out - room.used) out) n part'
-    → Adds w o out (record { used = room.used + n; failed = f }) (put_mid room.used (length out - room.used) out part')
-added w out o room {n} {f} {part'} h m c =
-    let fit : room.used + length w ≤ length out = omega (arith, c.puts.end, c.few, m.room) in
-    let e = part_put out w room.used fit c.puts in
-    let l = ap length e ∙ length_put out room.used w fit in
+-- a text of at most 4,096 bytes goes to the part of the buffer that is free: out and used as they were, and as they are with room for it
+pub added : (w out out₁ : List ℕ) (used used₁ : ℕ) → length w ≤ 4096
+    → used₁ ≡ start_of out used → take used₁ out₁ ≡ take used₁ out → used₁ + 4096 ≤ length out₁
+    → {r : Reply ℕ MatError} {n : ℕ} {part' : List ℕ} → WritesPart w (mid_of used₁ (length out₁ - used₁) out₁) r part' → n ≡ result_unwrap_or r 0
+    → Adds w out used (put_mid used₁ (length out₁ - used₁) out₁ part') (used₁ + n)
+added w out out₁ used used₁ l place kept room {r} {n} {part'} wr e =
+    let m : length w ≤ length (mid_of used₁ (length out₁ - used₁) out₁) =
+    omega (arith, length-take (length out₁ - used₁) (drop used₁ out₁), length-drop used₁ out₁) in
+    let p = text_puts w (mid_of used₁ (length out₁ - used₁) out₁) m wr in
+    let fit : used₁ + length w ≤ length out₁ = omega arith in
+    let z : used₁ + n ≡ used₁ + length w = omega (arith, p.end) in
+    let kept₁ : take used₁ out₁ ≡ take (start_of out used) out = kept ∙ ap (λ (k : ℕ). take k out) place in
     record {
-      puts = record { end = omega (arith, c.puts.end, m.place); buffer = e ∙ ap (λ (at : ℕ). put out at w) m.place };
-      ready = record { size = omega (arith, h.size); used = omega (arith, c.few, m.room) };
+      end = omega (arith, p.end);
+      holds = rw (z, part_put out₁ w used₁ fit p) (take_put out₁ used₁ w fit ∙ ap (λ (f : List ℕ). f ++ w) kept₁);
     }

@@ -1,11 +1,11 @@
 -- The lines of a listing. The words in quotes are document 01's.
 -- Assumes nothing.
-use Rattle.std.specs.Prelude.{ℕ, zero, suc, ◌+◌, ◌-◌, ◌/◌, ◌%◌, ◌≤◌, ◌≡◌, Bool, cond, not, ◌&&◌, ltb, eqb, length}
+use Rattle.std.specs.Prelude.{ℕ, zero, suc, ◌+◌, ◌-◌, ◌/◌, ◌%◌, ◌≤◌, ◌≡◌, Bool, cond, not, ◌&&◌, ltb, eqb, length, Result as Reply}
 use mathlib.Core.List.{List, [], ◌∷◌, ◌++◌, flat_map}
-use Rattle.text.specs.Replies.{length_reply_of}
-use Rattle.text.specs.Result.{ok, map_result, overwritten}
+use Rattle.text.specs.Replies.{Writes}
+use Rattle.text.specs.Result.{ok}
 use Rattle.text.specs.Unicode.{within}
-use Rattle.text.specs.declared.reply.LengthReply.{LengthReply}
+use Rattle.text.specs.declared.error.MatError.{MatError}
 use Rattle.reader.specs.Queries.{into_output}
 use Rattle.printing.specs.declared.lines.LinePart.{LinePart}
 use Rattle.printing.specs.declared.lines.LinePart.TheVariants as part
@@ -68,6 +68,5 @@ line_text part.Name = 0x20 ∷ 0x6E ∷ 0x61 ∷ 0x6D ∷ 0x65 ∷ 0x20 ∷ []
 line_text part.End = 0x0A ∷ []
 
 -- a call that writes a text to the start of an output, or refuses with 34
-pub record WritesPart (w out : List ℕ) (r : LengthReply) (out' : List ℕ) : Type 0 where
-  pub reply : length_reply_of r ≡ map_result length (into_output (ok w) (length out))
-  pub buffer : out' ≡ overwritten (λ t. t) (into_output (ok w) (length out)) out
+abbrev pub WritesPart : List ℕ → List ℕ → Reply ℕ MatError → List ℕ → Type 0
+WritesPart w out r out' = Writes (into_output (ok w)) out r out'

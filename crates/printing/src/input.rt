@@ -1,75 +1,56 @@
-// Standard input, told apart from a read that fails.
-ghost use Rattle.std.specs.Prelude.{◌≡◌, ◌+◌, ◌<◌, ◌≤◌, true, false, take, drop, length};
+// Reading input into a lent buffer.
+ghost use Rattle.std.specs.Prelude.{◌≡◌, ◌+◌, ◌-◌, ◌<◌, ◌≤◌, take, drop, length, IfOk};
 ghost use Rattle.std.specs.Io.KnownBytes.{Consumes, IsAtEnd};
+ghost use Rattle.printing.specs.Input.{bytes_of, AtEnd};
 
+use std::io;
 use std::io::Read;
 
-// How many bytes were read, and whether a read failed.
-#[derive(Clone, Copy)]
-pub(crate) struct Input {
-    pub(crate) bytes: usize,
-    pub(crate) failed: bool,
+// A read failed, after so many bytes.
+#[derive(Debug, Drop)]
+pub struct ReadFailed {
+    pub bytes: usize,
+    pub error: io::Error,
 }
 
-// One read to the start of buf: no bytes where the input ends. Where it fails, that is told on standard error.
-fn read_some<R: Read>(rt: &impl Eprint, reader: &mut R, buf: &mut [u8]) -> Input
-    ensures most { result.bytes ≤ length buf.old }
-    ensures front { Consumes (R.remaining reader.old) (R.remaining reader.new) (take result.bytes buf.new) }
-    ensures none { result.failed ≡ true → result.bytes ≡ 0 }
-    ensures end { result.failed ≡ false → result.bytes ≡ 0 → 0 < length buf.old → IsAtEnd (R.remaining reader.new) }
-{
-    match reader.read(buf) {
-        Ok(bytes) => Input {
-            bytes,
-            failed: false,
-        },
-        Err(e) => {
-            let _ = rt.eprintln(format_args!("standard input: {e}"));
-            Input {
-                bytes: 0,
-                failed: true,
-            }
-        }
+impl From<ReadFailed> for io::Error {
+    fn from(value: ReadFailed) -> io::Error {
+        value.error
     }
 }
 
 // One read to buf from an index on.
-fn read_from<R: Read>(rt: &impl Eprint, reader: &mut R, buf: &mut [u8], from: usize) -> Input
+fn read_from<R: Read>(reader: &mut R, buf: &mut [u8], from: usize) -> Result<usize, ReadFailed>
     requires { from ≤ length buf.old }
-    ensures most { from + result.bytes ≤ length buf.old }
+    ensures most { from + bytes_of result ≤ length buf.old }
     ensures kept { take from buf.new ≡ take from buf.old }
-    ensures front { Consumes (R.remaining reader.old) (R.remaining reader.new) (take result.bytes (drop from buf.new)) }
-    ensures none { result.failed ≡ true → result.bytes ≡ 0 }
-    ensures end { result.failed ≡ false → result.bytes ≡ 0 → from < length buf.old → IsAtEnd (R.remaining reader.new) }
+    ensures front { Consumes (R.remaining reader.old) (R.remaining reader.new) (take (bytes_of result) (drop from buf.new)) }
+    ensures end { IfOk result (AtEnd (R.remaining reader.new) (length buf.old - from)) }
 {
-    read_some(rt, reader, &mut buf[from..])
+    match reader.read(&mut buf[from..]) {
+        Ok(bytes) => Ok(bytes),
+        Err(error) => Err(ReadFailed { bytes: 0, error }),
+    }
 }
 
-// Reads until buf is full, the input ends or a read fails. Input can come in pieces; they stand in buf one after the other.
-pub(crate) fn read_input<R: Read>(rt: &impl Eprint, reader: &mut R, buf: &mut [u8]) -> Input
-    ensures most { result.bytes ≤ length buf.new }
-    ensures front { Consumes (R.remaining reader.old) (R.remaining reader.new) (take result.bytes buf.new) }
-    ensures whole { result.failed ≡ false → result.bytes < length buf.new → IsAtEnd (R.remaining reader.new) }
+// Reads until buf is full or the input ends. Input can come in pieces; they stand in buf one after the other.
+pub fn read_full<R: Read>(reader: &mut R, buf: &mut [u8]) -> Result<usize, ReadFailed>
+    ensures most { bytes_of result ≤ length buf.new }
+    ensures front { Consumes (R.remaining reader.old) (R.remaining reader.new) (take (bytes_of result) buf.new) }
+    ensures whole { IfOk result (λ n. n < length buf.new → IsAtEnd (R.remaining reader.new)) }
 {
     let mut n: usize = 0;
     while n < buf.len() {
-        let got = read_from(rt, reader, buf, n);
-        if got.failed {
-            return Input {
-                bytes: n,
-                failed: true,
-            };
+        match read_from(reader, buf, n) {
+            Ok(0) => return Ok(n),
+            Ok(more) => n += more,
+            Err(failed) => {
+                return Err(ReadFailed {
+                    bytes: n + failed.bytes,
+                    error: failed.error,
+                });
+            }
         }
-        if got.bytes == 0 {
-            return Input {
-                bytes: n,
-                failed: false,
-            };
-        }
-        n += got.bytes;
     }
-    Input {
-        bytes: n,
-        failed: false,
-    }
+    Ok(n)
 }

@@ -1,22 +1,24 @@
 // Prints the listing of a metadata blob: how many names it declares, its objects with their classes, and their properties.
 #![tactic(auto)]
 
-mod input;
+pub mod input;
 pub mod lines;
 mod output;
 
-ghost use Rattle.std.specs.Prelude.{◌≡◌, ◌^◌, ◌<◌, length};
-ghost use Rattle.printing.specs.Output.{Ready};
+ghost use Rattle.std.specs.Prelude.{◌≡◌, ◌≤◌, IfSome, length};
 
 use crate::lines::LinePart;
-use input::read_input;
-use output::{Output, buffer, finish, large_buffer, put_name, put_part};
+use input::read_full;
+use output::{Output, buffer};
 use reader::classes::object_class_name;
-use reader::file_wrapper::{FileWrapper, ParseReply};
-use reader::names::{NameReply, name};
+use reader::file_wrapper::FileWrapper;
+use reader::names::name;
 use reader::properties::{ROW_WIDTH, properties};
+use std::io::Read;
 use text::error::MatError;
-use text::reply::LengthReply;
+
+// The bytes of the buffers that are lent: a blob's, a name's, and those of the output.
+const LARGE: usize = 65536;
 
 // The property rows that are lent: one for each 12 bytes of a blob of 65,536.
 const ROWS: usize = 5461;
@@ -27,11 +29,8 @@ fn rows_buffer() -> [[u32; ROW_WIDTH]; ROWS]
     [[0; ROW_WIDTH]; ROWS]
 }
 
-fn put_refusal(rt: &(impl Print + Eprint), o: Output, error: MatError, out: &mut [u8]) -> Output
-    requires { Ready o out.old }
-    ensures { Ready result out.new }
-{
-    put_part(rt, o, LinePart::Refused(error.failure().number), out)
+fn put_refusal(rt: &(impl Print + Eprint), o: &mut Output<'_>, error: MatError) {
+    o.put_part(rt, LinePart::Refused(error.failure().number));
 }
 
 // The value of a property that is a number.
@@ -45,230 +44,168 @@ fn number_part(row: [u32; ROW_WIDTH]) -> LinePart {
 // The rest of a line whose value is a number, or that its name does not fit text.
 fn list_number(
     rt: &(impl Print + Eprint),
-    o: Output,
+    o: &mut Output<'_>,
     blob: &[u8],
     row: [u32; ROW_WIDTH],
     text: &mut [u8],
-    out: &mut [u8],
-) -> Output
-    requires { Ready o out.old }
-    ensures { Ready result out.new }
-{
+) {
     match name(blob, row[0], text) {
-        NameReply::Text { bytes, replaced: _ } => {
-            let named = put_name(rt, o, &text[0..bytes], out);
-            put_part(rt, named, number_part(row), out)
+        Ok(size) => {
+            o.put_name(rt, &text[0..size.bytes]);
+            o.put_part(rt, number_part(row));
         }
-        NameReply::Error(e) => put_refusal(rt, o, e, out),
+        Err(e) => put_refusal(rt, o, e),
     }
 }
 
 // The rest of a line whose value is a name, of this text, or that the property's own name does not fit text.
 fn list_named(
     rt: &(impl Print + Eprint),
-    o: Output,
+    o: &mut Output<'_>,
     blob: &[u8],
     row: [u32; ROW_WIDTH],
     value: &[u8],
     text: &mut [u8],
-    out: &mut [u8],
-) -> Output
-    requires { Ready o out.old }
-    ensures { Ready result out.new }
-{
+) {
     match name(blob, row[0], text) {
-        NameReply::Text { bytes, replaced: _ } => {
-            let named = put_name(rt, o, &text[0..bytes], out);
-            let word = put_part(rt, named, LinePart::Name, out);
-            let shown = put_name(rt, word, value, out);
-            put_part(rt, shown, LinePart::End, out)
+        Ok(size) => {
+            o.put_name(rt, &text[0..size.bytes]);
+            o.put_part(rt, LinePart::Name);
+            o.put_name(rt, value);
+            o.put_part(rt, LinePart::End);
         }
-        NameReply::Error(e) => put_refusal(rt, o, e, out),
+        Err(e) => put_refusal(rt, o, e),
     }
 }
 
 // One line: the property, or that one of its names does not fit its buffer. Both are there before either is printed.
 fn list_property(
     rt: &(impl Print + Eprint),
-    o: Output,
+    o: &mut Output<'_>,
     blob: &[u8],
     row: [u32; ROW_WIDTH],
     text: &mut [u8],
     value: &mut [u8],
-    out: &mut [u8],
-) -> Output
-    requires { Ready o out.old }
-    ensures { Ready result out.new }
-{
-    let start = put_part(rt, o, LinePart::Property, out);
+) {
+    o.put_part(rt, LinePart::Property);
     if row[1] != 0 {
-        return list_number(rt, start, blob, row, text, out);
+        list_number(rt, o, blob, row, text);
+        return;
     }
     match name(blob, row[2], value) {
-        NameReply::Text { bytes, replaced: _ } => {
-            list_named(rt, start, blob, row, &value[0..bytes], text, out)
-        }
-        NameReply::Error(e) => put_refusal(rt, start, e, out),
+        Ok(size) => list_named(rt, o, blob, row, &value[0..size.bytes], text),
+        Err(e) => put_refusal(rt, o, e),
     }
-}
-
-fn list_rows(
-    rt: &(impl Print + Eprint),
-    o: Output,
-    blob: &[u8],
-    rows: &[[u32; ROW_WIDTH]],
-    text: &mut [u8],
-    value: &mut [u8],
-    out: &mut [u8],
-) -> Output
-    requires { Ready o out.old }
-    ensures { Ready result out.new }
-{
-    let mut done = o;
-    let mut i: usize = 0;
-    while i < rows.len() {
-        done = list_property(rt, done, blob, rows[i], text, value, out);
-        if done.failed {
-            return done;
-        }
-        i += 1;
-    }
-    done
 }
 
 fn list_properties(
     rt: &(impl Print + Eprint),
-    o: Output,
+    o: &mut Output<'_>,
     blob: &[u8],
     object_id: u32,
     text: &mut [u8],
     value: &mut [u8],
     rows: &mut [[u32; ROW_WIDTH]],
-    out: &mut [u8],
-) -> Output
-    requires { Ready o out.old }
-    ensures { Ready result out.new }
-{
+) {
     match properties(blob, object_id, rows) {
-        LengthReply::Length(n) => list_rows(rt, o, blob, &rows[0..n], text, value, out),
-        LengthReply::Error(e) => {
-            let start = put_part(rt, o, LinePart::Property, out);
-            put_refusal(rt, start, e, out)
+        Ok(n) => {
+            for row in &rows[0..n] {
+                list_property(rt, o, blob, *row, text, value);
+                if o.failed {
+                    return;
+                }
+            }
+        }
+        Err(e) => {
+            o.put_part(rt, LinePart::Property);
+            put_refusal(rt, o, e);
         }
     }
-}
-
-// The line of an object and its class.
-fn list_class(rt: &(impl Print + Eprint), o: Output, class: &[u8], out: &mut [u8]) -> Output
-    requires { Ready o out.old }
-    ensures { Ready result out.new }
-{
-    let named = put_name(rt, o, class, out);
-    put_part(rt, named, LinePart::End, out)
 }
 
 fn list_object(
     rt: &(impl Print + Eprint),
-    o: Output,
+    o: &mut Output<'_>,
     blob: &[u8],
     object_id: u32,
     text: &mut [u8],
     value: &mut [u8],
     rows: &mut [[u32; ROW_WIDTH]],
-    out: &mut [u8],
-) -> Output
-    requires { Ready o out.old }
-    ensures { Ready result out.new }
-{
-    let start = put_part(rt, o, LinePart::Object(object_id), out);
+) {
+    o.put_part(rt, LinePart::Object(object_id));
     match object_class_name(blob, object_id, text) {
-        NameReply::Text { bytes, replaced: _ } => {
-            let class = list_class(rt, start, &text[0..bytes], out);
-            list_properties(rt, class, blob, object_id, text, value, rows, out)
+        Ok(size) => {
+            o.put_name(rt, &text[0..size.bytes]);
+            o.put_part(rt, LinePart::End);
+            list_properties(rt, o, blob, object_id, text, value, rows);
         }
-        NameReply::Error(e) => put_refusal(rt, start, e, out),
+        Err(e) => put_refusal(rt, o, e),
     }
 }
 
 // The objects 1 to records - 1.
-fn list_objects(
-    rt: &(impl Print + Eprint),
-    o: Output,
-    blob: &[u8],
-    records: usize,
-    out: &mut [u8],
-) -> Output
-    requires records_bound { records < 2 ^ 32 }
-    requires ready { Ready o out.old }
-    ensures { Ready result out.new }
-{
-    let text: &mut [u8] = &mut large_buffer();
-    let value: &mut [u8] = &mut large_buffer();
+fn list_objects(rt: &(impl Print + Eprint), o: &mut Output<'_>, blob: &[u8], records: u32) {
+    let text: &mut [u8] = &mut buffer::<LARGE>();
+    let value: &mut [u8] = &mut buffer::<LARGE>();
     let rows: &mut [[u32; ROW_WIDTH]] = &mut rows_buffer();
-    let mut done = o;
-    let mut id: u32 = 1;
-    while (id as usize) < records {
-        done = list_object(rt, done, blob, id, text, value, rows, out);
-        if done.failed {
-            return done;
+    for id in 1..records {
+        list_object(rt, o, blob, id, text, value, rows);
+        if o.failed {
+            return;
         }
-        id += 1;
     }
-    done
 }
 
 // Prints the listing of a blob, or its refusal, and answers whether all of it was written.
 pub fn list(rt: &(impl Print + Eprint), blob: &[u8]) -> bool {
-    let out: &mut [u8] = &mut large_buffer();
-    let o = Output {
-        used: 0,
-        failed: false,
-    };
+    let out: &mut [u8] = &mut buffer::<LARGE>();
+    let mut o = Output::new(out);
     match FileWrapper::parse(blob) {
-        ParseReply::Parsed(w) => {
-            let names = put_part(rt, o, LinePart::Names(w.names), out);
-            let objects = list_objects(rt, names, blob, w.records, out);
-            finish(rt, objects, out)
+        Ok(w) => {
+            o.put_part(rt, LinePart::Names(w.names));
+            list_objects(rt, &mut o, blob, w.records as u32);
         }
-        ParseReply::Error(e) => {
-            let refusal = put_refusal(rt, o, e, out);
-            finish(rt, refusal, out)
-        }
+        Err(e) => put_refusal(rt, &mut o, e),
     }
+    o.finish(rt)
 }
 
 fn print_too_long(rt: &(impl Print + Eprint)) {
-    let out: &mut [u8] = &mut buffer();
-    let o = put_part(
-        rt,
-        Output {
-            used: 0,
-            failed: false,
-        },
-        LinePart::TooLong,
-        out,
-    );
-    finish(rt, o, out);
+    let out: &mut [u8] = &mut buffer::<4096>();
+    let mut o = Output::new(out);
+    o.put_part(rt, LinePart::TooLong);
+    o.finish(rt);
+}
+
+// Reads to the start of buf, or tells on standard error that a read failed.
+fn read_told(rt: &impl Eprint, reader: &mut impl Read, buf: &mut [u8]) -> Option<usize>
+    ensures { IfSome result (λ n. n ≤ length buf.new) }
+{
+    match read_full(reader, buf) {
+        Ok(n) => Some(n),
+        Err(failed) => {
+            let error = failed.error;
+            let _ = rt.eprintln(format_args!("standard input: {error}"));
+            None
+        }
+    }
 }
 
 // Prints the listing of the blob on standard input, of at most 65,536 bytes. A read that fails is told on standard error.
 pub fn list_input(rt: &(impl Input + Print + Eprint)) {
     let mut reader = rt.reader();
-    let blob: &mut [u8] = &mut large_buffer();
-    let input = read_input(rt, &mut reader, blob);
-    if input.failed {
+    let blob: &mut [u8] = &mut buffer::<LARGE>();
+    let Some(n) = read_told(rt, &mut reader, blob) else {
         return;
-    }
+    };
     let after: &mut [u8] = &mut [0u8; 1];
-    let more = read_input(rt, &mut reader, after);
-    if more.failed {
+    let Some(more) = read_told(rt, &mut reader, after) else {
         return;
-    }
-    if more.bytes != 0 {
+    };
+    if more != 0 {
         print_too_long(rt);
         return;
     }
-    let n = input.bytes;
     let all: &[u8] = blob;
     list(rt, &all[0..n]);
 }

@@ -4,12 +4,11 @@ ghost use Rattle.text.specs.Buffer.{Puts};
 ghost use Rattle.text.specs.Result.{need_place};
 ghost use Rattle.printing.specs.Lines.{is_plain, hex_digit, escape, escaped, decimal, CountsDigits, numbered, line_text, WritesPart};
 
-use text::copy::copy_bytes;
+use text::copy::copy_into;
 use text::error::MatError;
-use text::reply::LengthReply;
 
 // A part of a line other than a name.
-#[derive(Clone, Copy)]
+#[derive(Clone, Copy, Debug, PartialEq, Eq)]
 pub enum LinePart {
     Names(u32), // names N, end of line
     Refused(u32), // refused N, end of line
@@ -27,16 +26,7 @@ pub enum LinePart {
 fn is_plain(byte: u8) -> bool
     ensures { result ≡ is_plain byte }
 {
-    if byte < 33 {
-        return false;
-    }
-    if 126 < byte {
-        return false;
-    }
-    if byte == b'"' {
-        return false;
-    }
-    byte != b'\\'
+    33 <= byte && byte <= 126 && byte != b'"' && byte != b'\\'
 }
 
 // The small hexadecimal digit of a number below 16.
@@ -45,19 +35,17 @@ fn hex_digit(digit: u8) -> u8
     ensures { result ≡ hex_digit digit }
 {
     if digit < 10 {
-        return 48 + digit;
+        b'0' + digit
+    } else {
+        b'a' + (digit - 10)
     }
-    87 + digit
 }
 
 // The length of what shows a byte.
 fn escape_length(byte: u8) -> usize
     ensures { result ≡ length (escape byte) }
 {
-    if is_plain(byte) {
-        return 1;
-    }
-    3
+    if is_plain(byte) { 1 } else { 3 }
 }
 
 // Writes what shows a byte into out from index at on, and returns the index after it.
@@ -70,7 +58,7 @@ fn put_escape(byte: u8, out: &mut [u8], at: usize) -> usize
         return at + 1;
     }
     let shown = [b'\\', hex_digit(byte / 16), hex_digit(byte % 16)];
-    copy_bytes(&shown, out, at)
+    copy_into(&shown, out, at)
 }
 
 // The length that a name's bytes need. Three bytes for each can pass 64 bits: then it is the largest number, which no output has.
@@ -78,14 +66,8 @@ fn escaped_need(name: &[u8]) -> usize
     ensures { result ≡ need_place (length (escaped name.now)) }
 {
     let mut n: usize = 0;
-    let mut i: usize = 0;
-    while i < name.len() {
-        let more = escape_length(name[i]);
-        if 0xFFFF_FFFF_FFFF_FFFF - n < more {
-            return 0xFFFF_FFFF_FFFF_FFFF;
-        }
-        n += more;
-        i += 1;
+    for byte in name {
+        n = n.saturating_add(escape_length(*byte));
     }
     n
 }
@@ -96,23 +78,21 @@ fn put_escaped(name: &[u8], out: &mut [u8]) -> usize
     ensures { Puts out.old 0 (escaped name.now) result out.new }
 {
     let mut o: usize = 0;
-    let mut i: usize = 0;
-    while i < name.len() {
-        o = put_escape(name[i], out, o);
-        i += 1;
+    for byte in name {
+        o = put_escape(*byte, out, o);
     }
     o
 }
 
 // The bytes of a name as a line shows them, at the start of out.
-pub fn write_escaped(name: &[u8], out: &mut [u8]) -> LengthReply
+pub fn write_escaped(name: &[u8], out: &mut [u8]) -> Result<usize, MatError>
     ensures { WritesPart (escaped name.now) out.old result out.new }
 {
     let need = escaped_need(name);
     if out.len() < need {
-        return LengthReply::Error(MatError::OutputTooShort(need as u64));
+        return Err(MatError::OutputTooShort(need as u64));
     }
-    LengthReply::Length(put_escaped(name, out))
+    Ok(put_escaped(name, out))
 }
 
 // The number of decimal digits of a value.
@@ -146,32 +126,32 @@ fn put_decimal(value: u32, out: &mut [u8], at: usize) -> usize
 }
 
 // A word at the start of out.
-fn write_word(word: &[u8], out: &mut [u8]) -> LengthReply
+fn write_word(word: &[u8], out: &mut [u8]) -> Result<usize, MatError>
     ensures { WritesPart word.now out.old result out.new }
 {
     let need = word.len();
     if out.len() < need {
-        return LengthReply::Error(MatError::OutputTooShort(need as u64));
+        return Err(MatError::OutputTooShort(need as u64));
     }
-    LengthReply::Length(copy_bytes(word, out, 0))
+    Ok(copy_into(word, out, 0))
 }
 
 // A number between two words, at the start of out. The words are short, so that the need fits 64 bits.
-fn write_numbered(start: &[u8], value: u32, end: &[u8], out: &mut [u8]) -> LengthReply
+fn write_numbered(start: &[u8], value: u32, end: &[u8], out: &mut [u8]) -> Result<usize, MatError>
     requires { length start.now + length end.now < 2 ^ 32 }
     ensures { WritesPart (numbered start.now value end.now) out.old result out.new }
 {
     let need = start.len() + decimal_length(value) + end.len();
     if out.len() < need {
-        return LengthReply::Error(MatError::OutputTooShort(need as u64));
+        return Err(MatError::OutputTooShort(need as u64));
     }
-    copy_bytes(start, out, 0);
+    copy_into(start, out, 0);
     let rest = put_decimal(value, out, start.len());
-    LengthReply::Length(copy_bytes(end, out, rest))
+    Ok(copy_into(end, out, rest))
 }
 
 // A part of a line at the start of out.
-pub fn write_part(part: LinePart, out: &mut [u8]) -> LengthReply
+pub fn write_part(part: LinePart, out: &mut [u8]) -> Result<usize, MatError>
     ensures { WritesPart (line_text part) out.old result out.new }
 {
     match part {

@@ -1,10 +1,9 @@
 // Standard output by way of a buffer.
-ghost use Rattle.std.specs.Prelude.{◌≡◌, ◌+◌, ◌≤◌, ◌<◌, length};
+ghost use Rattle.std.specs.Prelude.{◌≡◌, ◌+◌, ◌≤◌, ◌<◌, take, length};
 ghost use Rattle.printing.specs.Lines.{escaped, line_text};
-ghost use Rattle.printing.specs.Output.{Ready, Adds, MakesRoom, Copies};
+ghost use Rattle.printing.specs.Output.{start_of, Adds};
 
 use crate::lines::{LinePart, write_escaped, write_part};
-use text::reply::LengthReply;
 
 // Room for what is put into the buffer at a time: a part of a line, or a chunk of a name.
 const ROOM: usize = 4096;
@@ -13,161 +12,105 @@ const ROOM: usize = 4096;
 const CHUNK: usize = 1365;
 
 // Zeros. The `ensures` gives only the length, so that no goal has the zeros one by one.
-pub(crate) fn buffer() -> [u8; 4096]
-    ensures { 4096 ≡ length result }
+pub(crate) fn buffer<const N: usize>() -> [u8; N]
+    ensures { N ≡ length result }
 {
-    [0; 4096]
+    [0; N]
 }
 
-pub(crate) fn large_buffer() -> [u8; 65536]
-    ensures { 65536 ≡ length result }
-{
-    [0; 65536]
-}
-
-// How many bytes of the buffer are still to be written, and whether a write failed. After that nothing is written any more.
-#[derive(Clone, Copy)]
-pub(crate) struct Output {
-    pub(crate) used: usize,
-    pub(crate) failed: bool,
-}
-
-// Writes what the buffer holds. Where that fails, it is told on standard error, once.
-fn flush(rt: &(impl Print + Eprint), o: Output, out: &[u8]) -> Output
-    requires { Ready o out.now }
-    ensures { result.used ≡ 0 }
-{
-    if o.failed {
-        return Output {
-            used: 0,
-            failed: true,
-        };
-    }
-    let used = o.used;
-    match rt.write_all(&out[0..used]) {
-        Ok(()) => Output {
-            used: 0,
-            failed: false,
-        },
+// Writes bytes, and answers whether all were written. Where that fails, it is told on standard error.
+fn write_all(rt: &(impl Print + Eprint), bytes: &[u8]) -> bool {
+    match rt.write_all(bytes) {
+        Ok(()) => true,
         Err(e) => {
             let _ = rt.eprintln(format_args!("standard output: {e}"));
-            Output {
-                used: 0,
-                failed: true,
+            false
+        }
+    }
+}
+
+// A lent buffer, how many of its bytes are still to be written, and whether a write failed. After that nothing is written any more. The
+// buffer has room for every text once it is empty.
+#[derive(Drop)]
+pub(crate) struct Output<'a> {
+    pub(crate) out: &'a mut [u8],
+    pub(crate) used: usize,
+    pub(crate) failed: bool,
+    ghost size: { 4096 ≤ length out.now },
+    ghost inside: { used ≤ length out.now },
+}
+
+impl<'a> Output<'a> {
+    pub(crate) fn new(out: &'a mut [u8]) -> Output<'a>
+        requires { 4096 ≤ length out.old }
+    {
+        Output {
+            out,
+            used: 0,
+            failed: false,
+        }
+    }
+
+    // Writes what the buffer holds.
+    fn flush(&mut self, rt: &(impl Print + Eprint))
+        ensures { self.new.used ≡ 0 }
+    {
+        let used = self.used;
+        self.used = 0;
+        if self.failed {
+            return;
+        }
+        self.failed = !write_all(rt, &self.out[0..used]);
+    }
+
+    // Writes the rest, and answers whether all was written.
+    pub(crate) fn finish(&mut self, rt: &(impl Print + Eprint)) -> bool {
+        self.flush(rt);
+        !self.failed
+    }
+
+    // Makes room for a text.
+    fn make_room(&mut self, rt: &(impl Print + Eprint))
+        ensures place { self.new.used ≡ start_of self.old.out.now self.old.used }
+        ensures kept { take self.new.used self.new.out.now ≡ take self.new.used self.old.out.now }
+        ensures room { self.new.used + 4096 ≤ length self.new.out.now }
+    {
+        if ROOM <= self.out.len() - self.used {
+            return;
+        }
+        self.flush(rt);
+    }
+
+    // Puts a part of a line after what the buffer holds. It has at most 29 bytes, so that it is never refused.
+    pub(crate) fn put_part(&mut self, rt: &(impl Print + Eprint), part: LinePart)
+        ensures { Adds (line_text part) self.old.out.now self.old.used self.new.out.now self.new.used }
+    {
+        self.make_room(rt);
+        let used = self.used;
+        let n = write_part(part, &mut self.out[used..]).unwrap_or(0);
+        self.used += n;
+    }
+
+    // Puts a chunk of a name, as a line shows it: three bytes show a byte, so that it is never refused.
+    fn put_chunk(&mut self, rt: &(impl Print + Eprint), chunk: &[u8])
+        requires { length chunk.now ≤ 1365 }
+        ensures { Adds (escaped chunk.now) self.old.out.now self.old.used self.new.out.now self.new.used }
+    {
+        self.make_room(rt);
+        let used = self.used;
+        let n = write_escaped(chunk, &mut self.out[used..]).unwrap_or(0);
+        self.used += n;
+    }
+
+    // A name between quotes: its chunks, all of them if no write fails.
+    pub(crate) fn put_name(&mut self, rt: &(impl Print + Eprint), name: &[u8]) {
+        self.put_part(rt, LinePart::Quote);
+        for chunk in name.chunks(CHUNK) {
+            if self.failed {
+                break;
             }
+            self.put_chunk(rt, chunk);
         }
+        self.put_part(rt, LinePart::Quote);
     }
-}
-
-// Writes the rest, and answers whether all was written.
-pub(crate) fn finish(rt: &(impl Print + Eprint), o: Output, out: &[u8]) -> bool
-    requires { Ready o out.now }
-{
-    !flush(rt, o, out).failed
-}
-
-// The same output with room for a text.
-fn make_room(rt: &(impl Print + Eprint), o: Output, out: &[u8]) -> Output
-    requires { Ready o out.now }
-    ensures { MakesRoom out.now o result }
-{
-    if ROOM <= out.len() - o.used {
-        return o;
-    }
-    flush(rt, o, out)
-}
-
-// Writes a part to the start of out, and returns its length.
-fn copy_part(part: LinePart, out: &mut [u8]) -> usize
-    requires { 4096 ≤ length out.old }
-    ensures { Copies (line_text part) out.old result out.new }
-{
-    match write_part(part, out) {
-        LengthReply::Length(n) => n,
-        // Cannot be: a part has at most 29 bytes.
-        LengthReply::Error(_) => 0,
-    }
-}
-
-pub(crate) fn put_part(
-    rt: &(impl Print + Eprint),
-    o: Output,
-    part: LinePart,
-    out: &mut [u8],
-) -> Output
-    requires { Ready o out.old }
-    ensures { Adds (line_text part) o out.old result out.new }
-{
-    let room = make_room(rt, o, out);
-    let used = room.used;
-    let n = copy_part(part, &mut out[used..]);
-    Output {
-        used: used + n,
-        failed: room.failed,
-    }
-}
-
-// Writes a chunk, as a line shows it, to the start of out, and returns its length there.
-fn copy_escaped(chunk: &[u8], out: &mut [u8]) -> usize
-    requires { (length chunk.now ≤ 1365) × (4096 ≤ length out.old) }
-    ensures { Copies (escaped chunk.now) out.old result out.new }
-{
-    match write_escaped(chunk, out) {
-        LengthReply::Length(n) => n,
-        // Cannot be: three bytes show a byte.
-        LengthReply::Error(_) => 0,
-    }
-}
-
-fn put_chunk(rt: &(impl Print + Eprint), o: Output, chunk: &[u8], out: &mut [u8]) -> Output
-    requires ready { Ready o out.old }
-    requires chunk_len_bound { length chunk.now ≤ 1365 }
-    ensures { Adds (escaped chunk.now) o out.old result out.new }
-{
-    let room = make_room(rt, o, out);
-    let used = room.used;
-    let n = copy_escaped(chunk, &mut out[used..]);
-    Output {
-        used: used + n,
-        failed: room.failed,
-    }
-}
-
-// The end of the chunk that begins at an index below the length.
-fn chunk_end(start: usize, length: usize) -> usize
-    requires { start < length }
-    ensures { (start < result) × (result ≤ length) × (result ≤ start + 1365) }
-{
-    if CHUNK < length - start {
-        return start + CHUNK;
-    }
-    length
-}
-
-// The chunks of a name, all of them if no write fails.
-fn put_chunks(rt: &(impl Print + Eprint), o: Output, name: &[u8], out: &mut [u8]) -> Output
-    requires { Ready o out.old }
-    ensures { Ready result out.new }
-{
-    let mut done = o;
-    let mut i: usize = 0;
-    while i < name.len() {
-        let end = chunk_end(i, name.len());
-        done = put_chunk(rt, done, &name[i..end], out);
-        if done.failed {
-            return done;
-        }
-        i = end;
-    }
-    done
-}
-
-// A name between quotes.
-pub(crate) fn put_name(rt: &(impl Print + Eprint), o: Output, name: &[u8], out: &mut [u8]) -> Output
-    requires { Ready o out.old }
-    ensures { Ready result out.new }
-{
-    let start = put_part(rt, o, LinePart::Quote, out);
-    let shown = put_chunks(rt, start, name, out);
-    put_part(rt, shown, LinePart::Quote, out)
 }

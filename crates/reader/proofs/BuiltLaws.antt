@@ -3,7 +3,7 @@
 use mathlib.Core.Path.{◌≡◌, sym, ap, ◌∙◌}
 use mathlib.Core.Bool.{true, false}
 use mathlib.Core.List.{List, [], ◌∷◌, ◌++◌}
-use mathlib.Core.Option.{some}
+use Rattle.std.specs.Prelude.{Some}
 use Prim.Native.Nat.{ℕ, zero, suc, ◌+◌, ◌-◌, ◌*◌, ◌/◌, ◌%◌, ◌^◌, ◌≤◌, ◌<◌}
 use native.Mathlib.Nat.{zero-add, add-zero, add_assoc}
 use native.Mathlib.Numerals.{add-one}
@@ -272,6 +272,6 @@ module _ (n : ℕ) (few : n ≤ 349522) where
     unfolding object_properties record_properties
     built_properties = rw (built_opens, object_checked, triples_are, names_sound.0)
 
-    pub built_find : find_property (file_wrapper n) id any_name ≡ ok (some 0)
+    pub built_find : find_property (file_wrapper n) id any_name ≡ ok (Some 0)
     unfolding find_property position
     built_find = rw (built_opens, object_checked, triples_are, stored.0, same_refl any_name)

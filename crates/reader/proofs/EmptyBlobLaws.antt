@@ -1,10 +1,10 @@
 -- A blob of length 0 (document 02, P2): what each query answers, and that the next length that opens is 40.
 -- Assumes nothing.
 use Prim.Native.Nat.{ℕ, ◌≤◌, ◌<◌}
-use mathlib.Core.Path.{◌≡◌, refl, sym}
+use mathlib.Core.Path.{◌≡◌, refl}
 use mathlib.Core.List.{List, []}
 use native.Mathlib.Omega.{arith}
-use borrow.Author.Tests.{le-leb, lt-leb, le-ltb}
+use borrow.Author.Tests.{le-leb, lt-leb, le-ltb, ne_eqb}
 use lib.Dec.{leb}
 use lib.ListN.{length}
 use Rattle.text.specs.Result.{ok, error, ◌>>◌}
@@ -21,7 +21,6 @@ use Rattle.reader.specs.Opening.{empty_wrapper, opened}
 use Rattle.reader.specs.Queries.{into_output, into_text, name_text, entry_of, class_of, class_text, check_object, object_class_text}
 use Rattle.reader.specs.declared.file_wrapper.FileWrapper.{FileWrapper}
 use Rattle.reader.proofs.labels.Laws.{label_zero}
-use Rattle.reader.proofs.file_wrapper.Laws.{no_2}
 
 -- ---- opening
 
@@ -31,7 +30,8 @@ empty_opens = refl
 
 -- "The 39-byte case stands."
 pub short_refused : (b : List ℕ) → 1 ≤ length b → length b < 40 → opened b ≡ error (record { number = 2; place = length b })
-short_refused b h l = sym (no_2 b l (λ z. omega arith))
+unfolding opened
+short_refused b h l = simp (le-leb (length b) 16777216 (omega arith), ne_eqb (length b) 0 (λ z. omega arith), lt-leb 40 (length b) l)
 
 -- ---- names, classes and objects
 

@@ -4,7 +4,8 @@
 use mathlib.Core.Path.{◌≡◌, refl, sym, ap, ◌∙◌}
 use mathlib.Core.Bool.{Bool, true, false}
 use mathlib.Core.List.{List, [], ◌∷◌, ◌++◌}
-use mathlib.Core.Option.{Option, some, none, map}
+use Rattle.std.specs.Prelude.{Option, Some, None}
+use Rattle.std.specs.Option.{option_map}
 use Prim.Native.Nat.{ℕ, suc, ◌≤◌}
 use native.Mathlib.Omega.{arith}
 use borrow.Author.Tests.{leb-true}
@@ -33,14 +34,14 @@ use Rattle.reader.proofs.names.Comparison.{unnamed_equal}
 
 module _ (b : List ℕ) (w : FileWrapper) (i : ℕ) where
   -- a name, sound or damaged, is shown as a well-formed text without U+FFFD exactly where it is stored as it
-  pub shown_where_stored : (t : List ℕ) {vs : List ℕ} → scalars8 t ≡ some vs → Without 0xFFFD vs → same (shown b w i).text t ≡ same (own_bytes b w i) t
+  pub shown_where_stored : (t : List ℕ) {vs : List ℕ} → scalars8 t ≡ Some vs → Without 0xFFFD vs → same (shown b w i).text t ≡ same (own_bytes b w i) t
   shown_where_stored t e v = same_lossy (own_bytes b w i) t e v
 
   pub ascii_where_stored : (t : List ℕ) → Below 128 t → same (shown b w i).text t ≡ same (own_bytes b w i) t
   ascii_where_stored t h = shown_where_stored t (ascii_well_formed t h) (ascii_without t h)
 
   -- a sound name is shown as it is stored, so as any text
-  pub sound_where_stored : {vs : List ℕ} → scalars8 (own_bytes b w i) ≡ some vs → (t : List ℕ) → same (shown b w i).text t ≡ same (own_bytes b w i) t
+  pub sound_where_stored : {vs : List ℕ} → scalars8 (own_bytes b w i) ≡ Some vs → (t : List ℕ) → same (shown b w i).text t ≡ same (own_bytes b w i) t
   sound_where_stored e t = ap (λ (s : List ℕ). same s t) (lossy_same (own_bytes b w i) e)
 
 -- ---- one property
@@ -54,7 +55,7 @@ module _ (b : List ℕ) (w : FileWrapper) (wanted : List ℕ) (t : Triple) where
   own_matched e = ap (λ (s : List ℕ). same s wanted) e ∙ same_refl wanted
 
   -- "a name with ill-formed bytes matches no search text that is well-formed"
-  pub damaged_unmatched : scalars8 (own_bytes b w t.name_idx) ≡ none → {vs : List ℕ} → scalars8 wanted ≡ some vs → is_stored_as b w wanted t ≡ false
+  pub damaged_unmatched : scalars8 (own_bytes b w t.name_idx) ≡ None → {vs : List ℕ} → scalars8 wanted ≡ Some vs → is_stored_as b w wanted t ≡ false
   damaged_unmatched d e = same_not (own_bytes b w t.name_idx) wanted (λ k. not_some (sym d ∙ ap scalars8 k ∙ e))
 
   -- "The empty name matches empty search text", and no other
@@ -94,27 +95,27 @@ module _ {A : Type 0} (p : A → Bool) where
     none_before = (t, f.none_before);
   }
 
-  position_first : (xs : List A) {k : ℕ} → position p xs ≡ some k → First p xs k
+  position_first : (xs : List A) {k : ℕ} → position p xs ≡ Some k → First p xs k
   unfolding position
   position_first [] e = not_some e
   position_first (x ∷ xs) {k} e =
       either (p x)
-      (λ t. let z : some 0 ≡ some k = simp t at e in
+      (λ t. let z : Some 0 ≡ Some k = simp t at e in
       record { before = []; element = x; after = xs; are = refl; place = cc; passes = t; none_before = tt })
       (λ t. let o = map_is suc (position p xs) (simp t at e) in
       rw o.1.1 (first_later x t (position_first xs o.1.0)))
 
-  position_nothing : (xs : List A) → position p xs ≡ none → Each (λ x. p x ≡ false) xs
+  position_nothing : (xs : List A) → position p xs ≡ None → Each (λ x. p x ≡ false) xs
   unfolding position
   position_nothing [] e = tt
   position_nothing (x ∷ xs) e =
       either (p x) (λ t. not_some (sym (simp t at e))) (λ t. (t, position_nothing xs (unmapped (position p xs) (simp t at e))))
     where
-      unmapped : (m : Option ℕ) → map suc m ≡ none → m ≡ none
-      unmapped none k = refl
-      unmapped (some y) k = not_some (sym k)
+      unmapped : (m : Option ℕ) → option_map suc m ≡ None → m ≡ None
+      unmapped None k = refl
+      unmapped (Some y) k = not_some (sym k)
 
-  position_within : (before : List A) (x : A) (after : List A) → p x ≡ true → (j : ℕ) × ((position p (before ++ x ∷ after) ≡ some j) × (j ≤ length before))
+  position_within : (before : List A) (x : A) (after : List A) → p x ≡ true → (j : ℕ) × ((position p (before ++ x ∷ after) ≡ Some j) × (j ≤ length before))
   unfolding position
   position_within [] x after e = (0, (simp e, omega arith))
   position_within (y ∷ before) x after e =
@@ -159,23 +160,23 @@ module _ (b : List ℕ) (id : ℕ) (wanted : List ℕ) where
     find_is = rw (h.opens, h.object, h.triples)
 
     -- "First match": its name is stored as wanted, and none before it is
-    pub found_first : {k : ℕ} → find_property b id wanted ≡ ok (some k) → First (is_stored_as b w wanted) ts k
+    pub found_first : {k : ℕ} → find_property b id wanted ≡ ok (Some k) → First (is_stored_as b w wanted) ts k
     found_first e = position_first (is_stored_as b w wanted) ts (same_value (sym find_is ∙ e))
 
     -- "and none": no name is stored as wanted
-    pub none_found : find_property b id wanted ≡ ok none → Each (λ t. is_stored_as b w wanted t ≡ false) ts
+    pub none_found : find_property b id wanted ≡ ok None → Each (λ t. is_stored_as b w wanted t ≡ false) ts
     none_found e = position_nothing (is_stored_as b w wanted) ts (same_value (sym find_is ∙ e))
 
     -- a name is found by its own bytes, well-formed or not: it, or one before it that is stored alike
     pub own_found : (before : List Triple) (t : Triple) (after : List Triple) → ts ≡ before ++ t ∷ after → own_bytes b w t.name_idx ≡ wanted
-        → (j : ℕ) × ((find_property b id wanted ≡ ok (some j)) × (j ≤ length before))
+        → (j : ℕ) × ((find_property b id wanted ≡ ok (Some j)) × (j ≤ length before))
     own_found before t after are e =
         let r = position_within (is_stored_as b w wanted) before t after (own_matched b w wanted t e) in
         (r.0, (find_is ∙ ap (λ (xs : List Triple). ok (position (is_stored_as b w wanted) xs)) are ∙ ap ok r.1.0, r.1.1))
 
     -- well-formed text finds well-formed names alone
-    pub found_sound : {k : ℕ} (e : find_property b id wanted ≡ ok (some k)) {vs : List ℕ} → scalars8 wanted ≡ some vs
-        → scalars8 (own_bytes b w (found_first e).element.name_idx) ≡ some vs
+    pub found_sound : {k : ℕ} (e : find_property b id wanted ≡ ok (Some k)) {vs : List ℕ} → scalars8 wanted ≡ Some vs
+        → scalars8 (own_bytes b w (found_first e).element.name_idx) ≡ Some vs
     found_sound e s = let f = found_first e in ap scalars8 (matched_is b w wanted f.element f.passes) ∙ s
 
 -- ---- sound files are searched as before
@@ -190,7 +191,7 @@ base_find b id wanted = do
 
 -- every declared name of an opened blob is well-formed
 abbrev pub SoundNames : List ℕ → FileWrapper → Type 0
-SoundNames b w = (i : ℕ) → i ≤ w.names → (vs : List ℕ) × (scalars8 (own_bytes b w i) ≡ some vs)
+SoundNames b w = (i : ℕ) → i ≤ w.names → (vs : List ℕ) × (scalars8 (own_bytes b w i) ≡ Some vs)
 
 bind_alike : {A B : Type 0} (m : Result A) (f g : A → Result B) → ((a : A) → m ≡ ok a → f a ≡ g a) → (m >>= f) ≡ (m >>= g)
 bind_alike (ok a) f g h = h a refl

@@ -1,6 +1,7 @@
 pub mod BuiltLaws
 pub mod EmptyBlobLaws
 pub mod FindingLaws
+pub mod FrontLaws
 pub mod NameLaws
 pub mod ReadBack
 pub mod ReplacementLaws

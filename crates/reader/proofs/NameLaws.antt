@@ -1,44 +1,40 @@
--- What an opened blob has, and the outcomes of `name`.
+-- What an opened blob has, and what a query that writes a text comes to.
 -- Assumes nothing.
 use mathlib.Core.Path.{◌≡◌, refl, sym, ap, ◌∙◌, subst}
 use mathlib.Core.Bool.{◌||◌}
-use mathlib.Core.List.{List, [], ◌∷◌}
-use Prim.Native.Nat.{ℕ, zero, suc, ◌-◌, ◌^◌, ◌≤◌, ◌<◌}
+use mathlib.Core.List.{List}
+use Prim.Native.Nat.{ℕ, ◌+◌, ◌-◌, ◌^◌, ◌≤◌, ◌<◌}
 use native.Mathlib.Omega.{arith}
-use borrow.Author.Tests.{le-leb, lt-leb, leb-true}
+use borrow.Author.Tests.{lt-ltb, leb-true}
 use lib.Dec.{leb, eqb}
 use lib.ListN.{length, take, drop}
 use lib.Seq.{slice, length-slice}
+use Rattle.std.specs.Option.{unwrap_or}
+use Rattle.std.specs.Prelude.{IsErr, Option, Result as Reply}
+use Rattle.std.specs.Result.{IsErrAnd}
+use Rattle.std.proofs.lemmas.List.{drop-take}
 use Rattle.text.specs.Errors.{failure_of}
 use Rattle.text.specs.Replies.{lossy_length, WritesLossy}
-use Rattle.text.specs.Result.{Result, ok, error, map_result, check_each, overwritten, need_place}
-use Rattle.text.specs.Utf8.{lossy, parts_from, replaced_in}
+use Rattle.text.specs.Result.{Result, ok, error, check_each}
+use Rattle.text.specs.Utf8.{lossy}
 use Rattle.text.specs.declared.error.MatError.{MatError}
-use Rattle.text.specs.declared.error.MatError.TheVariants.{NameIndexOutOfRange, OutputTooShort}
-use Rattle.text.specs.declared.utf8.LossyLength.{LossyLength}
-use Rattle.text.specs.declared.utf8.LossyLength.TheVariants as measure
-use Rattle.text.specs.declared.utf8.LossyReply.{LossyReply}
-use Rattle.text.specs.declared.utf8.LossyReply.TheVariants as lossy_reply
-use Rattle.text.proofs.BufferLaws.{length_over}
-use Rattle.text.proofs.ResultLaws.{reply_is, same_value, check_passed, seq_passed, bind_passed, check_each_passed}
+use Rattle.text.specs.declared.utf8.LossySize.{LossySize}
+use Rattle.text.proofs.ReplyLaws.{handed_on}
+use Rattle.text.proofs.ResultLaws.{same_value, check_passed, check_is, seq_passed, bind_passed}
 use Rattle.text.proofs.TestLaws.{either}
 use Rattle.text.proofs.Utf8Laws.{lossy_le}
-use Rattle.text.proofs.utf8.Lossy.{length_is, too_long_is, replaced_le}
+use Rattle.text.proofs.utf8.Lossy.{replaced_le}
 use Rattle.reader.specs.Blocks.{blocks}
-use Rattle.reader.specs.Names.{ShownText, name_bytes, shown_bytes}
-use Rattle.reader.specs.Stages.Names.{piece_bytes, shown_piece, HasName, IsName, InBlob, IsSize}
+use Rattle.reader.specs.Names.{ShownText, shown_bytes}
+use Rattle.reader.specs.Stages.Names.{HasName, HasPieceAt, FirstPiece, IsSize}
 use Rattle.reader.specs.Opening.{declared_names, offset, is_within, is_ordered, piece_count, wrapper_of, check_regions, layout, empty_wrapper, opened}
 use Rattle.reader.specs.Stages.Opening.{Opens}
-use Rattle.reader.specs.Queries.{into_output, into_text, name_text}
-use Rattle.reader.specs.Replies.{parse_reply_of, WritesText}
+use Rattle.reader.specs.Queries.{check_name, own_bytes}
+use Rattle.reader.specs.Replies.{WritesText}
 use Rattle.reader.specs.declared.file_wrapper.FileWrapper.{FileWrapper}
-use Rattle.reader.specs.declared.file_wrapper.ParseReply.{ParseReply}
-use Rattle.reader.specs.declared.file_wrapper.ParseReply.TheVariants as parse
-use Rattle.reader.specs.declared.names.NameReply.{NameReply}
-use Rattle.reader.specs.declared.names.NameReply.TheVariants as name
-use Rattle.reader.specs.declared.names.Piece.{Piece}
 use Rattle.reader.proofs.blocks.Laws.{blocks_end}
-use Rattle.reader.proofs.names.Pieces.{from_here}
+use Rattle.reader.proofs.file_wrapper.Laws.{up, inside}
+use Rattle.reader.proofs.names.Pieces.{from_here, name_found}
 
 -- ---- what an opened blob has
 
@@ -59,19 +55,16 @@ by_header b w l o e =
       is = rw i o;
       most = l;
       names = rw (from_here 40 b (offset b 0) (leb-true 40 (offset b 0) p4.0)) (leb-true (declared_names b) (piece_count b) p6.0);
-      classes = up p5.1.0 1 (omega arith) (omega arith);
-      saveobj = up p5.1.0 2 (omega arith) (omega arith);
-      records = up p5.1.0 3 (omega arith) (omega arith);
-      normalobj = up p5.1.0 4 (omega arith) (omega arith);
-      inside = leb-true (offset b 4) (length b) (check_each_passed 3 (is_within b) 0 8 p3.1.0 4 (omega arith) (omega arith));
+      classes = up b p5.1.0 1 (omega arith) (omega arith);
+      saveobj = up b p5.1.0 2 (omega arith) (omega arith);
+      records = up b p5.1.0 3 (omega arith) (omega arith);
+      normalobj = up b p5.1.0 4 (omega arith) (omega arith);
+      inside = inside b p3.1.0 4 (omega arith);
       class_entries_lem = refl;
       object_records = refl;
       saveobj_blocks = p7.1.0;
       normalobj_blocks = p8.1.0;
     })
-  where
-    up : {u : Unit {0}} → check_each 5 (is_ordered b) 1 8 ≡ ok u → (k : ℕ) → 1 ≤ k → k < 8 → offset b (k - 1) ≤ offset b k
-    up r k h m = leb-true (offset b (k - 1)) (offset b k) (check_each_passed 5 (is_ordered b) 1 8 r k h m)
 
 pub opens : (b : List ℕ) (w : FileWrapper) → opened b ≡ ok w → Opens b w
 unfolding opened
@@ -98,141 +91,56 @@ opens b w e =
     }))
     (λ t. by_header b w l e (simp t at p2.1))
 
--- what a reply of `parse` says
-pub parsed : (b : List ℕ) {x : ParseReply} {w : FileWrapper} → parse_reply_of x ≡ opened b → x ≡ parse.Parsed w → Opens b w
-parsed b {x} {w} e g = opens b w (reply_is parse_reply_of e g)
+-- what the reply of `parse` says
+pub parsed : {b : List ℕ} {w : FileWrapper} → ok w ≡ opened b → Opens b w
+parsed {b} {w} e = opens b w (sym e)
 
 -- an id has 32 bits, and no blob has more records
-pub few_records : (b : List ℕ) {x : ParseReply} {w : FileWrapper} → parse_reply_of x ≡ opened b → x ≡ parse.Parsed w → w.records < 2 ^ 32
-few_records b e g =
-    let o = parsed b e g in
+pub few_records : (b : List ℕ) {w : FileWrapper} → ok w ≡ opened b → w.records < 2 ^ 32
+few_records b e =
+    let o = parsed e in
     omega (arith, o, o.object_records)
 
 -- ---- a query that writes a text
 
 -- the part of a slice from a up to e
 pub part_slice : (a e : ℕ) (b : List ℕ) → a ≤ e → take (e - a) (drop a b) ≡ slice a e b
-part_slice zero e b h =
-    let z : e - 0 ≡ e = omega arith in
-    rw z
-part_slice (suc a) zero b h = absurd (omega arith)
-part_slice (suc a) (suc e) [] h =
-    let z : suc e - suc a ≡ e - a = omega arith in
-    rw z (nothing (e - a))
-  where
-    nothing : (n : ℕ) → ◌≡◌ {A = List ℕ} (take n []) []
-    nothing zero = refl
-    nothing (suc n) = refl
-part_slice (suc a) (suc e) (x ∷ b) h =
-    let z : suc e - suc a ≡ e - a = omega arith in
-    rw z (part_slice a e b (omega arith))
+part_slice a e b h =
+    let z : a + (e - a) ≡ e = omega arith in
+    rw z at (sym (drop-take a (e - a) b))
 
-pub refused : (m : Result ShownText) (text : List ℕ) (e : MatError) → m ≡ error (failure_of e) → WritesText m text (name.Error e) text
-refused m text e w = rw w (record { reply = refl; buffer = refl })
+-- a refusal that `?` hands on
+pub refused : (m : Result ShownText) (text : List ℕ) (r : Reply LossySize MatError) (e : MatError)
+    → IsErr r × IsErrAnd r (λ y. y ≡ e) → m ≡ error (failure_of e) → WritesText m text r text
+refused m text r e p w = rw w (record { reply = handed_on r e p; buffer = refl })
 
-module _ (s text : List ℕ) {x : LossyReply} {text' : List ℕ} (l : WritesLossy s text x text') where
-  pub piece_written : {n k : ℕ} → x ≡ lossy_reply.Written n k → WritesText (ok (shown_bytes s)) text (name.Text n k) text'
-  piece_written {n} {k} g =
-      either (leb (length (lossy s)) (length text))
-      (λ t. let w : lossy_reply.Written n k ≡ lossy_reply.Written (length (lossy s)) (replaced_in (parts_from s 0)) = sym g ∙ simp t at l.reply in
-      let z : n ≡ length (lossy s) = cc in
-      let y : k ≡ replaced_in (parts_from s 0) = cc in
-      record { reply = simp t (rw (z, y)); buffer = simp t (simp t at l.buffer) })
-      (λ t. let w : lossy_reply.Written n k ≡ lossy_reply.TooShort (need_place (length (lossy s))) = sym g ∙ simp t at l.reply in
-      let z : ◌≡◌ {A = ℕ} 0 1 = cc in
-      absurd (omega arith))
+-- the call comes to k, which another writes
+pub text_by : {m k : Result ShownText} → m ≡ k → {text text' : List ℕ} {r : Reply LossySize MatError} → WritesText k text r text' → WritesText m text r text'
+text_by e t = rw e t
 
-  pub piece_short : {n : ℕ} → x ≡ lossy_reply.TooShort n → WritesText (ok (shown_bytes s)) text (name.Error (OutputTooShort n)) text'
-  piece_short {n} g =
-      either (leb (length (lossy s)) (length text))
-      (λ t. let w : lossy_reply.TooShort n ≡ lossy_reply.Written (length (lossy s)) (replaced_in (parts_from s 0)) = sym g ∙ simp t at l.reply in
-      let z : ◌≡◌ {A = ℕ} 0 1 = cc in
-      absurd (omega arith))
-      (λ t. let w : lossy_reply.TooShort n ≡ lossy_reply.TooShort (need_place (length (lossy s))) = sym g ∙ simp t at l.reply in
-      let z : n ≡ need_place (length (lossy s)) = cc in
-      record { reply = simp t (ap (λ (p : ℕ). error (record { number = 34; place = p })) z); buffer = simp t (simp t at l.buffer) })
+-- bytes as they are shown
+pub shown_written : {s text text' : List ℕ} {r : Reply LossySize MatError} → WritesLossy s text r text' → WritesText (ok (shown_bytes s)) text r text'
+shown_written {s} {text} w =
+    either (leb (length (lossy s)) (length text))
+    (λ t. record { reply = simp t (simp t at w.reply); buffer = simp t (simp t at w.buffer) })
+    (λ t. record { reply = simp t (simp t at w.reply); buffer = simp t (simp t at w.buffer) })
 
--- a call that writes a text keeps the buffer's length
-same_by : (m : Result ShownText) (text text' : List ℕ) → text' ≡ overwritten (λ t. t.text) (into_text m (length text)) text → length text' ≡ length text
-same_by (error e) text text' w = ap length w
-same_by (ok t) text text' w =
-    either (leb (length t.text) (length text))
-    (λ h. ap length (simp h at w) ∙ length_over t.text text (leb-true (length t.text) (length text) h))
-    (λ h. ap length (simp h at w))
+pub shown_size : (s : List ℕ) → length s ≤ 16777216 → {x : Option LossySize} → x ≡ lossy_length s → (d : LossySize) {n : LossySize} → n ≡ unwrap_or x d → IsSize s n
+unfolding lossy_length
+shown_size s few l d e =
+    let most : length (lossy s) ≤ 50331648 = omega (arith, lossy_le s) in
+    let fits = lt-ltb (length (lossy s)) (2 ^ 64) (omega (arith, most)) in
+    rw (e, l) (simp fits (record { bytes = refl; most = most; replaced = refl; few = omega (arith, replaced_le s) }))
 
-pub text_same : {m : Result ShownText} {text text' : List ℕ} {r : NameReply} → WritesText m text r text' → length text' ≡ length text
-text_same {m} {text} {text'} w = same_by m text text' w.buffer
+-- ---- a name
 
--- the same of a part of the blob
-module _ (b text : List ℕ) {p : Piece} {x : LossyReply} {text' : List ℕ} (i : InBlob b p)
-    (l : WritesLossy (take (p.end - p.start) (drop p.start b)) text x text') where
-  whole : WritesLossy (slice p.start p.end b) text x text'
-  whole = subst (λ (s : List ℕ). WritesLossy s text x text') (part_slice p.start p.end b i.order) l
+pub declared : (w : FileWrapper) (i : ℕ) {u : Unit {0}} → ok u ≡ check_name w i → i ≤ w.names
+declared w i e = leb-true i w.names (check_is 11 (leb i w.names) i (sym e))
 
-  pub part_written : {n k : ℕ} → x ≡ lossy_reply.Written n k → WritesText (ok (shown_piece b p)) text (name.Text n k) text'
-  part_written g = piece_written (slice p.start p.end b) text whole g
+pub has_name : {b : List ℕ} {w : FileWrapper} → Opens b w → {i : ℕ} → i ≤ w.names → HasName b w.offsets.o0 i
+has_name o h = record { inside = omega (arith, o); most = omega (arith, o.names) }
 
-  pub part_short : {n : ℕ} → x ≡ lossy_reply.TooShort n → WritesText (ok (shown_piece b p)) text (name.Error (OutputTooShort n)) text'
-  part_short g = piece_short (slice p.start p.end b) text whole g
-
--- the size of a piece
-module _ (b : List ℕ) {p : Piece} (i : InBlob b p) {x : LossyLength} (e : x ≡ lossy_length (take (p.end - p.start) (drop p.start b))) where
-  said : x ≡ lossy_length (piece_bytes b p)
-  said = e ∙ ap lossy_length (part_slice p.start p.end b i.order)
-
-  most : length (lossy (piece_bytes b p)) ≤ 50331648
-  most = omega (arith, lossy_le (piece_bytes b p), length-slice p.start p.end b i.inside, i)
-
-  pub piece_size : {n k : ℕ} → x ≡ measure.Length n k → IsSize b p (record { bytes = n; replaced = k })
-  piece_size g =
-      let l = length_is (piece_bytes b p) said g in
-      record {
-        bytes = l.0;
-        most = omega (arith, l, most);
-        replaced = l.1;
-        few = omega (arith, l, replaced_le (piece_bytes b p), length-slice p.start p.end b i.inside, i);
-      }
-
-  pub size_never : x ≡ measure.TooLong → IsSize b p (record { bytes = 0; replaced = 0 })
-  size_never g = absurd (omega (arith, too_long_is (piece_bytes b p) said g, most))
-
--- what was written lies in its output
-pub in_output : {A : Type 0} (m : Result (List A)) (room n : ℕ) → ok n ≡ map_result length (into_output m room) → n ≤ room
-in_output (error f) room n e =
-    let z : ◌≡◌ {A = ℕ} 0 1 = cc in
-    absurd (omega arith)
-in_output (ok xs) room n e =
-    either (leb (length xs) room)
-    (λ t. let q : ok n ≡ ok (length xs) = simp t at e in
-    let z : n ≡ length xs = cc in
-    omega (arith, leb-true (length xs) room t))
-    (λ t. let q : ok n ≡ error (record { number = 34; place = need_place (length xs) }) = simp t at e in
-    let z : ◌≡◌ {A = ℕ} 0 1 = cc in
-    absurd (omega arith))
-
--- ---- names
-
-module _ (b : List ℕ) (i : ℕ) {x : ParseReply} (e : parse_reply_of x ≡ opened b) where
-  pub name_refused : (text : List ℕ) {f : MatError} → x ≡ parse.Error f → WritesText (name_text b i) text (name.Error f) text
-  unfolding name_text
-  name_refused text {f} g = refused (name_text b i) text f (rw (reply_is parse_reply_of e g))
-
-  module _ {w : FileWrapper} (g : x ≡ parse.Parsed w) where
-    pub name_outside : (text : List ℕ) → w.names < i → WritesText (name_text b i) text (name.Error (NameIndexOutOfRange i)) text
-    unfolding name_text
-    name_outside text h = refused (name_text b i) text (NameIndexOutOfRange i) (rw (reply_is parse_reply_of e g) (simp (lt-leb i w.names h)))
-
-    pub has_name : i ≤ w.names → HasName b w.offsets.o0 i
-    has_name h =
-        let o = parsed b e g in
-        record { inside = omega (arith, o); most = omega (arith, o.names) }
-
-    pub in_blob : {end index : ℕ} {p : Piece} → IsName b end index p → InBlob b p
-    in_blob n = record { order = n.order; inside = n.inside; most = (parsed b e g).most }
-
-    pub name_written : {text text' : List ℕ} {r : NameReply} {p : Piece} → i ≤ w.names → IsName b w.offsets.o0 i p
-        → WritesText (ok (shown_piece b p)) text r text' → WritesText (name_text b i) text r text'
-    unfolding name_text
-    name_written {text} {text'} {r} h n t =
-        let m : name_text b i ≡ ok (shown_bytes (name_bytes b w.offsets.o0 i)) = rw (reply_is parse_reply_of e g) (simp (le-leb i w.names h)) in
-        rw m (rw n.is at t)
+-- its piece, as the code slices the blob
+pub own_part : {b : List ℕ} {w : FileWrapper} → Opens b w → {i : ℕ} → i ≤ w.names → (i ≡ 0 → ⊥) → {s e : ℕ} → HasPieceAt b w.offsets.o0 i s → FirstPiece b s w.offsets.o0 e
+    → (take (e - s) (drop s b) ≡ own_bytes b w i) × (length (take (e - s) (drop s b)) ≤ 16777216)
+own_part {b} o h some {s} {e} p f = rw (part_slice s e b f.order) (name_found (has_name o h) some p f, omega (arith, length-slice s e b (omega (arith, f.inside, o)), o))

@@ -1,13 +1,14 @@
 -- The canonical form of n arrays (01's written form: the built blob, payloads end to end, their spans, kinds 0) read by both roads: each id
 -- gives the strings of its own array.
 -- Assumes nothing.
-use mathlib.Core.Path.{◌≡◌, ap}
+use mathlib.Core.Path.{◌≡◌, sym, ap}
 use mathlib.Core.Bool.{true}
-use mathlib.Core.List.{List, [], append-nil}
+use mathlib.Core.List.{List, [], ◌∷◌, append-nil}
 use Prim.Native.Nat.{ℕ, zero, suc, ◌-◌, ◌/◌, ◌%◌, ◌≤◌, ◌<◌}
 use native.Mathlib.Omega.{arith}
 use borrow.Author.Tests.{le-leb, lt-ltb, eq-eqb}
-use lib.ListN.{length, get_or, replicate, length-replicate, get_or-replicate}
+use lib.ListN.{length, get_or, take, drop, replicate, length-replicate, get_or-replicate}
+use lib.Seq.{drop-cons}
 use Rattle.text.specs.Result.{ok}
 use Rattle.text.proofs.ResultLaws.{each_holds}
 use Rattle.text.proofs.SameLaws.{same_refl}
@@ -22,6 +23,7 @@ use Rattle.reader.specs.Objects.{position}
 use Rattle.reader.specs.Opaque.{opaque_metadata}
 use Rattle.reader.specs.Saveobj.{decode_payload}
 use Rattle.reader.specs.declared.opaque.OpaqueMetadata.{OpaqueMetadata}
+use Rattle.reader.proofs.opaque.Laws.{opaque_passed}
 use Rattle.reader.proofs.BuiltLaws.{built_opens, names_are, object_checked, class_is, triples_are}
 use Rattle.reader.proofs.RoundTrip.{round_trip}
 
@@ -90,7 +92,9 @@ module _ (xs : List Array) (few : length xs ≤ 349522) where
         → metadata_strings (file_wrapper n) directory kinds words metadata ≡ ok (get_or xs (id - 1) no_array).strings
     unfolding metadata_strings ids_strings
     canonical_first metadata {m} e one is =
-        rw (built_opens n few, canonical_directory, e, one, is, id_decodes) (ap ok (append-nil (get_or xs (id - 1) no_array).strings))
+        let t = (opaque_passed metadata (sym e)).there in
+        let ids : take 1 (drop m.first_id metadata) ≡ id ∷ [] = rw (drop-cons metadata m.first_id 0 (omega (arith, one)), is) in
+        rw (built_opens n few, canonical_directory, e, one, ids, id_decodes) (ap ok (append-nil (get_or xs (id - 1) no_array).strings))
 
     -- by its own property
     pub canonical_second : object_strings (file_wrapper n) directory kinds words id ≡ ok (get_or xs (id - 1) no_array).strings

@@ -3,7 +3,7 @@
 use mathlib.Core.Path.{◌≡◌, refl, sym, ap, ◌∙◌}
 use mathlib.Core.Bool.{cond}
 use mathlib.Core.List.{List, [], ◌∷◌, ◌++◌, map}
-use mathlib.Core.Option.{some}
+use Rattle.std.specs.Prelude.{Some}
 use Prim.Native.Nat.{ℕ, ◌≤◌}
 use borrow.Author.Tests.{le-leb}
 use lib.Dec.{eqb, leb}
@@ -30,10 +30,10 @@ module _ (b : List ℕ) (w : FileWrapper) (i : ℕ) where
   stored = name_bytes b w.offsets.o0 i
 
   -- the count is 0 exactly where the name is well-formed
-  pub counted_0 : (shown b w i).replaced ≡ 0 → scalars8 stored ≡ some (repaired (parts_from stored 0))
+  pub counted_0 : (shown b w i).replaced ≡ 0 → scalars8 stored ≡ Some (repaired (parts_from stored 0))
   counted_0 z = none_replaced stored z
 
-  pub sound_0 : {vs : List ℕ} → scalars8 stored ≡ some vs → (shown b w i).replaced ≡ 0
+  pub sound_0 : {vs : List ℕ} → scalars8 stored ≡ Some vs → (shown b w i).replaced ≡ 0
   sound_0 e = sound_replaced stored e
 
   -- and the name is then shown as it is stored

@@ -3,7 +3,7 @@
 use mathlib.Core.Path.{◌≡◌, refl, ◌∙◌, sym, ap, subst}
 use mathlib.Core.Bool.{true}
 use mathlib.Core.List.{List, [], ◌∷◌, ◌++◌, append_assoc, append-nil, flat_map}
-use mathlib.Core.Option.{some}
+use Rattle.std.specs.Prelude.{Some}
 use Prim.Native.Nat.{ℕ, zero, suc, ◌+◌, ◌-◌, ◌*◌, ◌/◌, ◌^◌, ◌≤◌, ◌<◌}
 use native.Mathlib.Omega.{arith}
 use borrow.Author.Tests.{le-leb, lt-ltb, ne_eqb}
@@ -34,7 +34,7 @@ use Rattle.reader.proofs.saveobj.Strings.{is_paired}
 -- what writing asks of an array, with x the words that follow it
 pub record Writable (a : Array) (x : List ℕ) : Type 0 where
   pub shape : is_shape a.dims (length a.strings) ≡ true
-  pub well_formed : (i : ℕ) → i < length a.strings → units_of (get_or a.strings i []) ≡ some (string_units (get_or a.strings i []))
+  pub well_formed : (i : ℕ) → i < length a.strings → units_of (get_or a.strings i []) ≡ Some (string_units (get_or a.strings i []))
   pub most : length (payload a ++ x) ≤ 2097152
 
 -- ---- strings and their units, by index
@@ -55,7 +55,7 @@ units_take ss i h =
     ∙ ap length (all_units_append (take i ss) (get_or ss i [] ∷ []) ∙ ap (λ (us : List ℕ). all_units (take i ss) ++ us) (append-nil (string_units (get_or ss i []))))
     ∙ length-append (all_units (take i ss)) (string_units (get_or ss i []))
 
-all_below : (ss : List (List ℕ)) → ((i : ℕ) → i < length ss → units_of (get_or ss i []) ≡ some (string_units (get_or ss i []))) → Below 65536 (all_units ss)
+all_below : (ss : List (List ℕ)) → ((i : ℕ) → i < length ss → units_of (get_or ss i []) ≡ Some (string_units (get_or ss i []))) → Below 65536 (all_units ss)
 unfolding flat_map
 all_below [] f = tt
 all_below (s ∷ ss) f =
@@ -164,7 +164,7 @@ module _ (a : Array) (x : List ℕ) (h : Writable a x) where
       (subst (λ (v : List ℕ). units_in (head ds ss ++ (packed v ++ x)) (length (head ds ss)) (length b) (length us) ≡ us) (sym (units_split ss i l))
       (part_within (head ds ss) b us r x (subst (Below 65536) (units_split ss i l) (all_below ss h.well_formed))))
 
-  text_is : (i : ℕ) → i < n → text_of (stored_units w base n i) ≡ some (get_or ss i [])
+  text_is : (i : ℕ) → i < n → text_of (stored_units w base n i) ≡ Some (get_or ss i [])
   text_is i l = ap text_of (units_is i l) ∙ units_text (get_or ss i []) (string_units (get_or ss i [])) (h.well_formed i l)
 
   stored_are : (k i : ℕ) → i + k ≡ n → stored_strings w base n i k ≡ drop i ss

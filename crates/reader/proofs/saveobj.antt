@@ -1,5 +1,5 @@
 pub mod Canonical
-pub mod Header
+pub mod HeaderLaws
 pub mod Lengths
 pub mod Payload
 pub mod Strings

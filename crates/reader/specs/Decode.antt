@@ -1,8 +1,8 @@
 -- String objects by both roads of document 01: through opaque metadata (`decode_string`), and through an object's property
 -- (`decode_string_object`).
 -- Assumes nothing.
-use Rattle.std.specs.Prelude.{ℕ, zero, suc, List, [], ◌∷◌, ◌++◌, eqb, length, get_or}
-use Rattle.std.proofs.Math.Option
+use Rattle.std.specs.Option.{unwrap_or}
+use Rattle.std.specs.Prelude.{ℕ, List, [], ◌∷◌, ◌++◌, eqb, length, get_or, take, drop}
 use Rattle.text.specs.Buffer.{same}
 use Rattle.text.specs.Result.{Result, ok, check, ◌>>◌, ◌>>=◌}
 use Rattle.reader.specs.Cells.{check_directory, cell_at, cell_of}
@@ -23,12 +23,12 @@ id_strings directory kinds words id = do
   payload ← cell_of directory kinds words id
   decode_payload payload
 
--- "for each id in turn": those of n ids from word i of the metadata on
-unfoldable pub ids_strings : List ℕ → List ℕ → List ℕ → List ℕ → ℕ → ℕ → Result (List (List ℕ))
-ids_strings directory kinds words metadata i zero = ok []
-ids_strings directory kinds words metadata i (suc n) = do
-  first ← id_strings directory kinds words (get_or metadata i 0)
-  rest ← ids_strings directory kinds words metadata (suc i) n
+-- "for each id in turn"
+unfoldable pub ids_strings : List ℕ → List ℕ → List ℕ → List ℕ → Result (List (List ℕ))
+ids_strings directory kinds words [] = ok []
+ids_strings directory kinds words (id ∷ ids) = do
+  first ← id_strings directory kinds words id
+  rest ← ids_strings directory kinds words ids
   ok (first ++ rest)
 
 -- "First road: 1–7, 13, 17–21, then 14, 15, 22–29 for each id in turn"
@@ -37,7 +37,7 @@ metadata_strings blob directory kinds words metadata = do
   opened blob
   check_directory directory kinds (length words)
   m ← opaque_metadata metadata
-  ids_strings directory kinds words metadata m.first_id m.ids
+  ids_strings directory kinds words (take m.ids (drop m.first_id metadata))
 
 -- ---- the second road
 
@@ -61,7 +61,7 @@ string_class blob w c = check_string_class (class_of blob w c)
 
 -- the position of the property that leads to the cell: "the property named "any", else the first"
 abbrev pub chosen_index : List ℕ → FileWrapper → List Triple → ℕ
-chosen_index blob w ts = Option.get_or (position (is_named blob w any_name) ts) 0
+chosen_index blob w ts = unwrap_or (position (is_named blob w any_name) ts) 0
 
 -- 16 for the property, then the cell of its heap value: 14, 15, 22–29
 unfoldable pub property_strings : List ℕ → List ℕ → List ℕ → Triple → Result (List (List ℕ))

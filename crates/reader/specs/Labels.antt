@@ -2,7 +2,6 @@
 -- Assumes nothing.
 use Rattle.std.specs.Prelude.{ℕ, ◌+◌, ◌≡◌, cond, List, eqb, length, take, drop}
 use Rattle.std.specs.Borrow.{Bor}
-use Rattle.text.specs.Errors.{failure_of}
 use Rattle.text.specs.Result.{Result, ok, error, or_error, ◌>>◌, ◌>>=◌}
 use Rattle.text.specs.Utf8.{scalars8}
 use Rattle.reader.specs.Names.{name_start}
@@ -10,8 +9,6 @@ use Rattle.reader.specs.Opening.{opened}
 use Rattle.reader.specs.Queries.{check_name, own_bytes}
 use Rattle.reader.specs.declared.file_wrapper.FileWrapper.{FileWrapper}
 use Rattle.reader.specs.declared.labels.Part.{Part}
-use Rattle.reader.specs.declared.labels.LabelReply.{LabelReply}
-use Rattle.reader.specs.declared.labels.LabelReply.TheVariants as reply
 use Rattle.reader.specs.declared.labels.Source.{Source}
 use Rattle.reader.specs.declared.labels.Source.TheVariants as source
 
@@ -37,11 +34,6 @@ label_of b placeholder i = do
   check_name w i
   check_well_formed (own_bytes b w i) i
   ok (name_part b placeholder w i)
-
--- the companion's answer: the part, or the refusal
-abbrev pub label_reply_of : LabelReply → Result Part
-label_reply_of (reply.Part p) = ok p
-label_reply_of (reply.Error e) = error (failure_of e)
 
 -- "A refusal's part is the placeholder's first 0 bytes."
 abbrev pub part_of : Result Part → Part

@@ -1,8 +1,8 @@
 -- Objects and their properties, each query as its checks in sequence.
 -- Assumes nothing.
+use Rattle.std.specs.Option.{option_map}
 use Rattle.std.specs.Prelude.{ℕ, zero, suc, ◌+◌, ◌-◌, Bool, cond, ◌||◌, List, [], ◌∷◌, map, leb, ltb, eqb}
-use Rattle.std.proofs.Math.Option
-use Rattle.std.proofs.Math.Option.{Option, some, none}
+use Rattle.std.specs.Prelude.{Option, Some, None}
 use Rattle.text.specs.Buffer.{same}
 use Rattle.text.specs.Result.{Result, ok, check, ◌>>◌, ◌>>=◌}
 use Rattle.reader.specs.Blocks.{block_at}
@@ -79,10 +79,6 @@ object_rows b = do
 abbrev pub no_row : ObjectRow
 no_row = record { class_id = 0; region = 0; block_id = 0; property_count = 0 }
 
--- eight rows before a listing
-abbrev pub blank_rows : List ObjectRow
-blank_rows = no_row ∷ no_row ∷ no_row ∷ no_row ∷ no_row ∷ no_row ∷ no_row ∷ no_row ∷ []
-
 -- the n triples from byte i on
 unfoldable pub triples_from : List ℕ → ℕ → ℕ → List Triple
 triples_from b i zero = []
@@ -136,8 +132,8 @@ object_properties b id = do
 
 -- the position, from 0, of the first element for which a test holds
 unfoldable pub position : {A : Type 0} → (A → Bool) → List A → Option ℕ
-position p [] = none
-position p (x ∷ xs) = cond (p x) (some 0) (Option.map suc (position p xs))
+position p [] = None
+position p (x ∷ xs) = cond (p x) (Some 0) (option_map suc (position p xs))
 
 -- a triple's name is shown as the given bytes: the second road chooses by it
 abbrev pub is_named : List ℕ → FileWrapper → List ℕ → Triple → Bool

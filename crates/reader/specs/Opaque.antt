@@ -1,12 +1,9 @@
 -- Opaque metadata (01's word list): "magic, number of dimensions, dimensions, ids, class". Checks 17 to 21.
 -- Assumes nothing.
 use Rattle.std.specs.Prelude.{ℕ, ◌+◌, List, leb, eqb, length, get_or, take, drop}
-use Rattle.text.specs.Errors.{failure_of}
 use Rattle.text.specs.Product.{product_of, check_product}
-use Rattle.text.specs.Result.{Result, ok, error, check, ◌>>◌, ◌>>=◌}
+use Rattle.text.specs.Result.{Result, ok, check, ◌>>◌, ◌>>=◌}
 use Rattle.reader.specs.declared.opaque.OpaqueMetadata.{OpaqueMetadata}
-use Rattle.reader.specs.declared.opaque.OpaqueReply.{OpaqueReply}
-use Rattle.reader.specs.declared.opaque.OpaqueReply.TheVariants as reply
 
 -- word 1
 abbrev pub dimensions : List ℕ → ℕ
@@ -22,8 +19,3 @@ opaque_metadata w = do
   ids ← check_product 20 (product_of (take (dimensions w) (drop 2 w)))
   check 21 (eqb (length w) (2 + dimensions w + ids + 1)) (length w)
   ok (record { first_id = 2 + dimensions w; ids = ids; class_id = get_or w (2 + dimensions w + ids) 0 })
-
--- the numbers that opaque metadata replies with, or the refusal
-abbrev pub opaque_reply_of : OpaqueReply → Result OpaqueMetadata
-opaque_reply_of (reply.Parsed m) = ok m
-opaque_reply_of (reply.Error e) = error (failure_of e)

@@ -1,14 +1,15 @@
 pub mod Blocks
 pub mod Cells
-pub mod Classes
-pub mod Decode
+pub mod Chunks
 pub mod Find
 pub mod Listing
 pub mod Names
 pub mod Objects
 pub mod Opening
+pub mod Plan
 pub mod Properties
 pub mod Replacements
 pub mod Saveobj
 pub mod StringObjects
+pub mod Triples
 pub mod Units

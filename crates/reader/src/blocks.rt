@@ -1,9 +1,11 @@
 // Property blocks: a count and that many entries of one size, then a step up to a multiple of 8 from the blob's start.
 ghost use Rattle.std.specs.Prelude.{◌≡◌, ◌+◌, ◌-◌, ◌*◌, ◌/◌, ◌≤◌, length};
+ghost use Rattle.text.specs.Replies.{outcome};
 ghost use Rattle.reader.specs.Blocks.{block_end, block_at, blocks};
-ghost use Rattle.reader.specs.Stages.Blocks.{HasBlock, IsRegion, block_count_of};
+ghost use Rattle.reader.specs.Stages.Blocks.{HasBlock, IsRegion};
 
 use crate::records::read_u32;
+use text::error::MatError;
 
 // The end of the block at a byte.
 fn block_end(blob: &[u8], at: usize, size: usize) -> usize
@@ -21,36 +23,28 @@ fn round_up(end: usize) -> usize
     8 * ((end + 7) / 8)
 }
 
-// The bytes from at up to end, none past it.
-fn remaining(at: usize, end: usize) -> usize
-    ensures { result ≡ end - at }
-{
-    if at < end { end - at } else { 0 }
-}
-
-// The number of blocks of a region, or the byte of the first count whose entries leave the region.
-#[derive(Clone, Copy)]
-pub(crate) enum BlockCount {
-    Blocks(usize),
-    Truncated(usize),
-}
-
-// Check 7 for the region from byte start up to byte end.
-pub(crate) fn count_blocks(blob: &[u8], start: usize, end: usize, size: usize) -> BlockCount
+// The number of blocks of the region from byte start up to byte end: check 7, whose place is the byte of the first count whose entries
+// leave the region.
+pub(crate) fn count_blocks(
+    blob: &[u8],
+    start: usize,
+    end: usize,
+    size: usize,
+) -> Result<usize, MatError>
     requires { IsRegion blob.now start end size }
-    ensures { block_count_of result ≡ blocks size blob.now start end }
+    ensures { outcome result ≡ blocks size blob.now start end }
 {
     let mut n: usize = 0;
     let mut at = start;
-    while 4 <= remaining(at, end) {
+    while 4 <= end.saturating_sub(at) {
         let last = block_end(blob, at, size);
         if end < last {
-            return BlockCount::Truncated(at);
+            return Err(MatError::PropertyBlockTruncated(at as u64));
         }
         at = round_up(last);
         n += 1;
     }
-    BlockCount::Blocks(n)
+    Ok(n)
 }
 
 // The byte of the block that lies n blocks after the one at a byte.
@@ -58,11 +52,9 @@ pub(crate) fn block_after(blob: &[u8], at: usize, n: usize, size: usize) -> usiz
     requires { HasBlock size blob.now at n }
     ensures { result ≡ block_at size blob.now at n }
 {
-    let mut k: usize = 0;
     let mut i = at;
-    while k < n {
+    for _ in 0..n {
         i = round_up(block_end(blob, i, size));
-        k += 1;
     }
     i
 }

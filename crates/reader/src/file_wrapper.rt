@@ -1,16 +1,14 @@
 // The metadata blob: checks 1 to 7, and what later queries need of its layout.
-ghost use Rattle.std.specs.Prelude.{◌≡◌, ◌≤◌, ◌<◌, length};
-ghost use Rattle.text.specs.Replies.{checked_of};
-ghost use Rattle.text.specs.Result.{check_each};
+ghost use Rattle.std.specs.Prelude.{◌≡◌, ◌≤◌, ◌<◌, length, IfOk};
+ghost use Rattle.text.specs.Replies.{outcome};
+ghost use Rattle.text.specs.Result.{check_each, map_result};
 ghost use Rattle.reader.specs.Opening.{offset, offsets, is_within, is_ordered, check_regions, empty_wrapper, opened};
-ghost use Rattle.reader.specs.Stages.Opening.{Ordered};
-ghost use Rattle.reader.specs.Replies.{parse_reply_of};
+ghost use Rattle.reader.specs.Stages.Opening.{Ordered, Opens};
 
-use crate::blocks::{BlockCount, count_blocks};
+use crate::blocks::count_blocks;
 use crate::names::count_pieces;
 use crate::records::{ClassEntry, ObjectRecord, Triple, read_u32};
 use text::error::MatError;
-use text::reply::Checked;
 
 // The most bytes of a blob, and the length of its header.
 pub const MAX_BLOB: usize = 16777216;
@@ -18,7 +16,7 @@ pub const MAX_BLOB: usize = 16777216;
 pub(crate) const HEADER: usize = 40;
 
 // The eight region offsets.
-#[derive(Clone, Copy)]
+#[derive(Clone, Copy, Debug, Default, PartialEq, Eq)]
 pub struct Offsets {
     pub o0: usize,
     pub o1: usize,
@@ -31,7 +29,7 @@ pub struct Offsets {
 }
 
 // An opened blob: the declared names, the whole class entries and object records, the blocks of the two property regions, the offsets.
-#[derive(Clone, Copy)]
+#[derive(Clone, Copy, Debug, Default, PartialEq, Eq)]
 pub struct FileWrapper {
     pub names: u32,
     pub classes: usize,
@@ -39,12 +37,6 @@ pub struct FileWrapper {
     pub saveobj_blocks: usize,
     pub normalobj_blocks: usize,
     pub offsets: Offsets,
-}
-
-#[derive(Clone, Copy)]
-pub enum ParseReply {
-    Parsed(FileWrapper),
-    Error(MatError),
 }
 
 fn read_offset(blob: &[u8], k: usize) -> usize
@@ -55,34 +47,29 @@ fn read_offset(blob: &[u8], k: usize) -> usize
 }
 
 // Check 3.
-fn check_within(blob: &[u8]) -> Checked
+fn check_within(blob: &[u8]) -> Result<(), MatError>
     requires { 40 ≤ length blob.now }
-    ensures { checked_of result ≡ check_each 3 (is_within blob.now) 0 8 }
+    ensures { outcome result ≡ check_each 3 (is_within blob.now) 0 8 }
 {
-    let mut k: usize = 0;
-    while k < 8 {
+    for k in 0..8 {
         if blob.len() < read_offset(blob, k) {
-            return Checked::Failed(MatError::OffsetOutOfBounds(k as u64));
+            return Err(MatError::OffsetOutOfBounds(k as u64));
         }
-        k += 1;
     }
-    Checked::Passed
+    Ok(())
 }
 
 // Check 5.
-fn check_order(blob: &[u8]) -> Checked
+fn check_order(blob: &[u8]) -> Result<(), MatError>
     requires { 40 ≤ length blob.now }
-    ensures { checked_of result ≡ check_each 5 (is_ordered blob.now) 1 8 }
+    ensures { outcome result ≡ check_each 5 (is_ordered blob.now) 1 8 }
 {
-    let mut k: usize = 1;
-    while k < 8 {
-        let before = read_offset(blob, k - 1);
-        if read_offset(blob, k) < before {
-            return Checked::Failed(MatError::OffsetsDescending(k as u64));
+    for k in 1..8 {
+        if read_offset(blob, k) < read_offset(blob, k - 1) {
+            return Err(MatError::OffsetsDescending(k as u64));
         }
-        k += 1;
     }
-    Checked::Passed
+    Ok(())
 }
 
 fn read_offsets(blob: &[u8]) -> Offsets
@@ -105,89 +92,78 @@ fn read_offsets(blob: &[u8]) -> Offsets
 pub(crate) fn empty_wrapper() -> FileWrapper
     ensures { result ≡ empty_wrapper }
 {
-    FileWrapper {
-        names: 0,
-        classes: 0,
-        records: 0,
-        saveobj_blocks: 0,
-        normalobj_blocks: 0,
-        offsets: Offsets {
-            o0: 0,
-            o1: 0,
-            o2: 0,
-            o3: 0,
-            o4: 0,
-            o5: 0,
-            o6: 0,
-            o7: 0,
-        },
-    }
+    FileWrapper::default()
 }
 
 // A blob that is too short for a header: an empty one opens with no names, classes or objects, any other fails check 2.
-fn parse_short(blob: &[u8]) -> ParseReply
+#[tactic(auto, unfolding(crate::specs::Opening::opened))]
+fn parse_short(blob: &[u8]) -> Result<FileWrapper, MatError>
     requires { length blob.now < 40 }
-    ensures { parse_reply_of result ≡ opened blob.now }
+    ensures { outcome result ≡ opened blob.now }
 {
-    if blob.len() == 0 {
-        return ParseReply::Parsed(empty_wrapper());
+    if blob.is_empty() {
+        return Ok(empty_wrapper());
     }
-    ParseReply::Error(MatError::BlobTooShort(blob.len() as u64))
+    Err(MatError::BlobTooShort(blob.len() as u64))
 }
 
 impl FileWrapper {
     // Opens a blob: checks 1 to 7.
-    pub fn parse(blob: &[u8]) -> ParseReply
-        ensures { parse_reply_of result ≡ opened blob.now }
+    pub fn parse(blob: &[u8]) -> Result<FileWrapper, MatError>
+        ensures { outcome result ≡ opened blob.now }
     {
         if MAX_BLOB < blob.len() {
-            return ParseReply::Error(MatError::BlobTooLong(blob.len() as u64));
+            return Err(MatError::BlobTooLong(blob.len() as u64));
         }
         if blob.len() < HEADER {
             return parse_short(blob);
         }
-        if let Checked::Failed(e) = check_within(blob) {
-            return ParseReply::Error(e);
-        }
+        check_within(blob)?;
         let o = read_offsets(blob);
         if o.o0 < HEADER {
-            return ParseReply::Error(MatError::NameHeapTooEarly(0));
+            return Err(MatError::NameHeapTooEarly(0));
         }
-        if let Checked::Failed(e) = check_order(blob) {
-            return ParseReply::Error(e);
-        }
+        check_order(blob)?;
         parse_regions(blob, o)
     }
 }
 
+// An opened blob with its wrapper.
+#[derive(Clone, Copy)]
+pub(crate) struct Metadata<'a> {
+    pub(crate) blob: &'a [u8],
+    pub(crate) w: FileWrapper,
+    ghost opens: { Opens blob.now w },
+}
+
+impl<'a> Metadata<'a> {
+    // Opens a blob: checks 1 to 7.
+    pub(crate) fn open(blob: &'a [u8]) -> Result<Metadata<'a>, MatError>
+        ensures { (map_result (λ m. m.w) (outcome result) ≡ opened blob.now) × IfOk result (λ m. m.blob.now ≡ blob.now) }
+    {
+        let w = FileWrapper::parse(blob)?;
+        Ok(Metadata { blob, w })
+    }
+}
+
 // Checks 6 and 7, once the offsets are right.
-fn parse_regions(blob: &[u8], offsets: Offsets) -> ParseReply
+fn parse_regions(blob: &[u8], offsets: Offsets) -> Result<FileWrapper, MatError>
     requires { Ordered blob.now offsets }
-    ensures { parse_reply_of result ≡ check_regions blob.now }
+    ensures { outcome result ≡ check_regions blob.now }
 {
     let names = read_u32(blob, 4);
     let pieces = count_pieces(blob, HEADER, offsets.o0);
     if pieces < names as usize {
-        return ParseReply::Error(MatError::TooFewNames(pieces as u64));
+        return Err(MatError::TooFewNames(pieces as u64));
     }
-    match count_blocks(blob, offsets.o1, offsets.o2, Triple::SIZE) {
-        BlockCount::Blocks(saveobj_blocks) => {
-            match count_blocks(blob, offsets.o3, offsets.o4, Triple::SIZE) {
-                BlockCount::Blocks(normalobj_blocks) => ParseReply::Parsed(FileWrapper {
-                    names,
-                    classes: (offsets.o1 - offsets.o0) / ClassEntry::SIZE,
-                    records: (offsets.o3 - offsets.o2) / ObjectRecord::SIZE,
-                    saveobj_blocks,
-                    normalobj_blocks,
-                    offsets,
-                }),
-                BlockCount::Truncated(at) => {
-                    ParseReply::Error(MatError::PropertyBlockTruncated(at as u64))
-                }
-            }
-        }
-        BlockCount::Truncated(at) => {
-            ParseReply::Error(MatError::PropertyBlockTruncated(at as u64))
-        }
-    }
+    let saveobj_blocks = count_blocks(blob, offsets.o1, offsets.o2, Triple::SIZE)?;
+    let normalobj_blocks = count_blocks(blob, offsets.o3, offsets.o4, Triple::SIZE)?;
+    Ok(FileWrapper {
+        names,
+        classes: (offsets.o1 - offsets.o0) / ClassEntry::SIZE,
+        records: (offsets.o3 - offsets.o2) / ObjectRecord::SIZE,
+        saveobj_blocks,
+        normalobj_blocks,
+        offsets,
+    })
 }

@@ -1,77 +1,62 @@
 // A label for a name: the name's own bytes where they lie in the blob, or a placeholder for an empty name.
 ghost use Rattle.std.specs.Prelude.{◌≡◌, length};
-ghost use Rattle.text.specs.Result.{ok};
-ghost use Rattle.reader.specs.Labels.{placeholder_part, label_of, label_reply_of, IsLabel};
+ghost use Rattle.text.specs.Replies.{outcome};
+ghost use Rattle.reader.specs.Labels.{placeholder_part, label_of, IsLabel};
 
-use crate::file_wrapper::{FileWrapper, ParseReply};
-use crate::names::piece_start;
+use crate::file_wrapper::Metadata;
+use crate::names::{check_name, piece_start};
 use text::error::MatError;
-use text::utf8::{TextLength, terminated_length};
+use text::utf8::terminated_length;
 
 // The buffer that a part belongs to.
-#[derive(Clone, Copy)]
+#[derive(Clone, Copy, Debug, PartialEq, Eq)]
 pub enum Source {
     Blob,
     Placeholder,
 }
 
 // A part of a lent buffer: which buffer, its first byte there, and how many bytes.
-#[derive(Clone, Copy)]
+#[derive(Clone, Copy, Debug, PartialEq, Eq)]
 pub struct Part {
     pub source: Source,
     pub start: usize,
     pub length: usize,
 }
 
-// The part, or the refusal.
-#[derive(Clone, Copy)]
-pub enum LabelReply {
-    Part(Part),
-    Error(MatError),
-}
-
 // The label of an empty name.
-fn unnamed(placeholder: &[u8]) -> LabelReply
-    ensures { label_reply_of result ≡ ok (placeholder_part (length placeholder.now)) }
+fn unnamed(placeholder: &[u8]) -> Part
+    ensures { result ≡ placeholder_part (length placeholder.now) }
 {
-    LabelReply::Part(Part {
+    Part {
         source: Source::Placeholder,
         start: 0,
         length: placeholder.len(),
-    })
+    }
 }
 
 // Which part of which buffer is the label of a name index. The name is not copied, so it must be well-formed as it stands; its end is
 // found as it is looked at.
-pub fn label_source(blob: &[u8], placeholder: &[u8], index: u32) -> LabelReply
-    ensures { label_reply_of result ≡ label_of blob.now placeholder.now index }
+pub fn label_source(blob: &[u8], placeholder: &[u8], index: u32) -> Result<Part, MatError>
+    ensures { outcome result ≡ label_of blob.now placeholder.now index }
 {
-    match FileWrapper::parse(blob) {
-        ParseReply::Parsed(w) => {
-            if w.names < index {
-                return LabelReply::Error(MatError::NameIndexOutOfRange(index as u64));
-            }
-            if index == 0 {
-                return unnamed(placeholder);
-            }
-            let heap_end = w.offsets.o0;
-            let start = piece_start(blob, heap_end, index as usize);
-            match terminated_length(&blob[start..heap_end]) {
-                TextLength::Length(length) => {
-                    if length == 0 {
-                        return unnamed(placeholder);
-                    }
-                    LabelReply::Part(Part {
-                        source: Source::Blob,
-                        start,
-                        length,
-                    })
-                }
-                TextLength::IllFormed => LabelReply::Error(MatError::NameIllFormed(index as u64)),
-            }
-        }
-        ParseReply::Error(e) => LabelReply::Error(e),
+    let metadata = Metadata::open(blob)?;
+    check_name(metadata.w, index)?;
+    if index == 0 {
+        return Ok(unnamed(placeholder));
     }
+    let heap_end = metadata.w.offsets.o0;
+    let start = piece_start(blob, heap_end, index as usize);
+    let Some(length) = terminated_length(&blob[start..heap_end]) else {
+        return Err(MatError::NameIllFormed(index as u64));
+    };
+    if length == 0 {
+        return Ok(unnamed(placeholder));
+    }
+    Ok(Part {
+        source: Source::Blob,
+        start,
+        length,
+    })
 }
 
 // The part itself: of a refused call the placeholder's first 0 bytes.
@@ -79,15 +64,13 @@ pub fn label<'a>(blob: &'a [u8], placeholder: &'a [u8], index: u32) -> &'a [u8]
     ensures { IsLabel blob.entry placeholder.entry index result }
 {
     match label_source(blob, placeholder, index) {
-        LabelReply::Part(p) => {
-            let start = p.start;
-            let end = start + p.length;
-            let source = p.source;
-            match source {
-                Source::Blob => &blob[start..end],
-                Source::Placeholder => &placeholder[start..end],
+        Ok(p) => {
+            let end = p.start + p.length;
+            match p.source {
+                Source::Blob => &blob[p.start..end],
+                Source::Placeholder => &placeholder[p.start..end],
             }
         }
-        LabelReply::Error(_) => &placeholder[0..0],
+        Err(_) => &placeholder[0..0],
     }
 }

@@ -3,6 +3,7 @@
 
 mod blocks;
 pub mod cells;
+mod chunks;
 pub mod classes;
 pub mod decode;
 pub mod file_wrapper;
@@ -12,9 +13,11 @@ pub mod listing;
 pub mod names;
 pub mod objects;
 pub mod opaque;
+mod plan;
 pub mod properties;
 mod records;
 mod replacements;
 pub mod saveobj;
 pub mod string_objects;
+mod triples;
 mod units;

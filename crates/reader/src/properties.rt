@@ -1,105 +1,79 @@
 // The properties of an object.
 ghost use Rattle.std.specs.Prelude.{◌≡◌, ◌++◌, map, ◌≤◌, ◌<◌, length, drop};
-ghost use Rattle.text.specs.Replies.{checked_of};
+ghost use Rattle.text.specs.Replies.{outcome};
 ghost use Rattle.reader.specs.Objects.{triples_from, check_triple, check_triples, row_of, replaced_of, object_properties};
-ghost use Rattle.reader.specs.Stages.Properties.{TriplesIn, PassedTriples, RecordTriples, ReadsTriples};
+ghost use Rattle.reader.specs.Stages.Properties.{named_triples, RecordTriples, ReadsTriples};
+ghost use Rattle.reader.specs.Stages.Triples.{TriplesIn};
 ghost use Rattle.reader.specs.Stages.Replacements.{no_count};
-ghost use Rattle.reader.specs.Stages.Opening.{Opens};
 ghost use Rattle.reader.specs.Queries.{object_record};
 ghost use Rattle.reader.specs.Replies.{WritesRows};
 
-use crate::file_wrapper::{FileWrapper, ParseReply};
-use crate::objects::{ObjectReply, check_object, read_object};
+use crate::file_wrapper::{FileWrapper, Metadata};
+use crate::names::check_name;
 use crate::records::Triple;
 use crate::replacements::count_replaced;
+use crate::triples::Triples;
 use text::error::MatError;
-use text::reply::{Checked, LengthReply};
 
 // A property as five numbers: its name index, its type (0 name, 1 heap, 2 inline), its value, and how many replacement characters stand in
 // its name, and in its value where that is a name, else 0.
 pub const ROW_WIDTH: usize = 5;
 
 // Checks 11 and 12 for one property.
-fn check_triple(w: FileWrapper, triple: Triple) -> Checked
-    ensures { checked_of result ≡ check_triple w triple }
+#[tactic(auto, unfolding(crate::specs::Objects::check_triple))]
+fn check_triple(w: FileWrapper, triple: Triple) -> Result<(), MatError>
+    ensures { outcome result ≡ check_triple w triple }
 {
-    if w.names < triple.name_idx {
-        return Checked::Failed(MatError::NameIndexOutOfRange(triple.name_idx as u64));
-    }
+    check_name(w, triple.name_idx)?;
     if 2 < triple.field_type {
-        return Checked::Failed(MatError::UnknownFieldType(triple.field_type as u64));
+        return Err(MatError::UnknownFieldType(triple.field_type as u64));
     }
     if triple.field_type == 0 {
-        if w.names < triple.value {
-            return Checked::Failed(MatError::NameIndexOutOfRange(triple.value as u64));
-        }
+        check_name(w, triple.value)?;
     }
-    Checked::Passed
+    Ok(())
 }
 
 // The same for count triples from byte start on.
-fn check_triples(blob: &[u8], w: FileWrapper, start: usize, count: usize) -> Checked
-    requires { TriplesIn blob.now start count }
-    ensures { checked_of result ≡ check_triples w (triples_from blob.now start count) }
+#[tactic(auto, unfolding(crate::specs::Objects::check_triples, crate::specs::Objects::triples_from))]
+fn check_triples(metadata: Metadata, start: usize, count: usize) -> Result<(), MatError>
+    requires { TriplesIn metadata.blob.now start count }
+    ensures { let b = metadata.entry.blob.now in
+        outcome result ≡ check_triples metadata.entry.w (triples_from b start count) }
 {
-    let mut at = start;
-    let mut left = count;
-    while 0 < left {
-        if let Checked::Failed(e) = check_triple(w, Triple::read(blob, at)) {
-            return Checked::Failed(e);
-        }
-        at += Triple::SIZE;
-        left -= 1;
+    for i in 0..count {
+        let triple = Triple::read(metadata.blob, start + Triple::SIZE * i);
+        check_triple(metadata.w, triple)?;
     }
-    Checked::Passed
-}
-
-// The triples of an object: the opened blob, the byte of the first, and their number.
-#[derive(Clone, Copy)]
-pub(crate) enum TriplesReply {
-    Triples {
-        w: FileWrapper,
-        at: usize,
-        count: usize,
-    },
-    Error(MatError),
+    Ok(())
 }
 
 // Checks 10 to 12 for an object that the blob has.
-pub(crate) fn record_triples(blob: &[u8], w: FileWrapper, object_id: u32) -> TriplesReply
-    requires { Opens blob.now w × (object_id < w.records) }
-    ensures { RecordTriples blob.now w (object_record blob.now w object_id) result }
+#[tactic(auto, unfolding(crate::specs::Objects::record_triples, crate::specs::Objects::record_row))]
+pub(crate) fn record_triples(metadata: Metadata, object_id: u32) -> Result<Triples, MatError>
+    requires { object_id < metadata.w.records }
+    ensures { let m = metadata.entry in
+        RecordTriples m (object_record m.blob.now m.w object_id) result }
 {
-    match read_object(blob, w, object_id) {
-        ObjectReply::Object { row, at } => {
-            let first = at + 4;
-            let count = row.property_count as usize;
-            if let Checked::Failed(e) = check_triples(blob, w, first, count) {
-                return TriplesReply::Error(e);
-            }
-            TriplesReply::Triples {
-                w,
-                at: first,
-                count,
-            }
-        }
-        ObjectReply::Error(e) => TriplesReply::Error(e),
-    }
+    let object = metadata.read_object(object_id)?;
+    let at = object.at + 4;
+    let count = object.row.property_count as usize;
+    check_triples(metadata, at, count)?;
+    Ok(Triples {
+        metadata,
+        at,
+        count,
+    })
 }
 
 // The triples of an object: checks 1 to 8 and 10 to 12.
-pub(crate) fn object_triples(blob: &[u8], object_id: u32) -> TriplesReply
+#[tactic(auto, unfolding(crate::specs::Stages::Properties::object_triples))]
+pub(crate) fn object_triples(blob: &[u8], object_id: u32) -> Result<Triples, MatError>
     ensures { ReadsTriples blob.now object_id result }
 {
-    match FileWrapper::parse(blob) {
-        ParseReply::Parsed(w) => {
-            if let Checked::Failed(e) = check_object(w, object_id) {
-                return TriplesReply::Error(e);
-            }
-            record_triples(blob, w, object_id)
-        }
-        ParseReply::Error(e) => TriplesReply::Error(e),
-    }
+    let metadata = Metadata::open(blob)?;
+    metadata.check_object(object_id)?;
+    record_triples(metadata, object_id)
 }
 
 // The row of a triple before its names are counted.
@@ -109,47 +83,43 @@ fn row_of(triple: Triple) -> [u32; ROW_WIDTH]
     [triple.name_idx, triple.field_type, triple.value, 0, 0]
 }
 
-// Such a row for each of count triples from byte start on, at the start of rows.
-fn put_rows(blob: &[u8], start: usize, count: usize, rows: &mut [[u32; ROW_WIDTH]])
-    requires { TriplesIn blob.now start count × (count ≤ length rows.old) }
-    ensures { let triples = triples_from blob.now start count in
-        rows.new ≡ map (row_of no_count) triples ++ drop count rows.old }
-{
-    let mut i: usize = 0;
-    while i < count {
-        rows[i] = row_of(Triple::read(blob, start + Triple::SIZE * i));
-        i += 1;
+impl<'a> Triples<'a> {
+    // A row for each, at the start of rows.
+    fn put_rows(self, rows: &mut [[u32; ROW_WIDTH]])
+        requires { self.count ≤ length rows.old }
+        ensures { let ts = named_triples self.entry in
+            rows.new ≡ map (row_of no_count) ts ++ drop self.entry.count rows.old }
+    {
+        for i in 0..self.count {
+            rows[i] = row_of(self.get(i));
+        }
     }
-}
 
-// The rows of triples that passed their checks, with the counts of their names.
-fn write_rows(
-    blob: &[u8],
-    w: FileWrapper,
-    start: usize,
-    count: usize,
-    rows: &mut [[u32; ROW_WIDTH]],
-)
-    requires { PassedTriples blob.now w start count × (count ≤ length rows.old) }
-    ensures { let triples = triples_from blob.now start count in
-        rows.new ≡ map (row_of (replaced_of blob.now w)) triples ++ drop count rows.old }
-{
-    put_rows(blob, start, count, rows);
-    count_replaced(blob, w, count, rows);
+    // The same with the counts of their names.
+    fn write_rows(self, rows: &mut [[u32; ROW_WIDTH]])
+        requires { self.count ≤ length rows.old }
+        ensures { let m = self.entry.metadata in let ts = named_triples self.entry in
+            rows.new ≡ map (row_of (replaced_of m.blob.now m.w)) ts ++ drop self.entry.count rows.old }
+    {
+        self.put_rows(rows);
+        count_replaced(self.metadata, self.count, rows);
+    }
 }
 
 // The properties of an object, a row for each, at the start of rows.
-pub fn properties(blob: &[u8], object_id: u32, rows: &mut [[u32; ROW_WIDTH]]) -> LengthReply
+#[tactic(auto, unfolding(crate::specs::Objects::object_properties, crate::specs::Objects::record_properties, crate::specs::Stages::Properties::object_triples))]
+pub fn properties(
+    blob: &[u8],
+    object_id: u32,
+    rows: &mut [[u32; ROW_WIDTH]],
+) -> Result<usize, MatError>
     ensures { WritesRows (object_properties blob.now object_id) rows.old result rows.new }
 {
-    match object_triples(blob, object_id) {
-        TriplesReply::Triples { w, at, count } => {
-            if rows.len() < count {
-                return LengthReply::Error(MatError::OutputTooShort(count as u64));
-            }
-            write_rows(blob, w, at, count, rows);
-            LengthReply::Length(count)
-        }
-        TriplesReply::Error(e) => LengthReply::Error(e),
+    let triples = object_triples(blob, object_id)?;
+    let count = triples.count;
+    if rows.len() < count {
+        return Err(MatError::OutputTooShort(count as u64));
     }
+    triples.write_rows(rows);
+    Ok(count)
 }

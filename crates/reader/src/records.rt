@@ -2,25 +2,17 @@
 ghost use Rattle.std.specs.Prelude.{◌≡◌, ◌+◌, ◌≤◌, ◌<◌, length};
 ghost use Rattle.reader.specs.Wire.{u32_at, class_entry_at, object_record_at, triple_at};
 
-fn wide(x: u8) -> u32
-    ensures { (result ≡ x) × (result < 256) }
-{
-    x as u32
-}
-
 // The little-endian 32-bit word at byte at.
+#[tactic(auto, unfolding(crate::specs::Wire::u32_at))]
 pub(crate) fn read_u32(blob: &[u8], at: usize) -> u32
     requires { at + 4 ≤ length blob.now }
     ensures { result ≡ u32_at blob.now at }
 {
-    wide(blob[at])
-        + 256 * wide(blob[at + 1])
-        + 65536 * wide(blob[at + 2])
-        + 16777216 * wide(blob[at + 3])
+    u32::from_le_bytes([blob[at], blob[at + 1], blob[at + 2], blob[at + 3]])
 }
 
 // A class: the name indices of its namespace and its name.
-#[derive(Clone, Copy)]
+#[derive(Clone, Copy, Debug, PartialEq, Eq)]
 pub(crate) struct ClassEntry {
     pub(crate) namespace_idx: u32,
     pub(crate) name_idx: u32,
@@ -41,7 +33,7 @@ impl ClassEntry {
 }
 
 // An object: its class, its property block in either region, and its block of dependents.
-#[derive(Clone, Copy)]
+#[derive(Clone, Copy, Debug, PartialEq, Eq)]
 pub(crate) struct ObjectRecord {
     pub(crate) class_id: u32,
     pub(crate) saveobj_id: u32,
@@ -66,7 +58,7 @@ impl ObjectRecord {
 }
 
 // A property: its name index, how its value is meant, and the value.
-#[derive(Clone, Copy)]
+#[derive(Clone, Copy, Debug, PartialEq, Eq)]
 pub(crate) struct Triple {
     pub(crate) name_idx: u32,
     pub(crate) field_type: u32,

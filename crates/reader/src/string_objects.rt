@@ -1,103 +1,77 @@
 // String objects of a metadata blob, and the strings that they lead to in a cell store.
 ghost use Rattle.std.specs.Prelude.{◌≡◌, [], ◌∷◌, ◌<◌, length};
+ghost use Rattle.text.specs.Replies.{outcome};
 ghost use Rattle.text.specs.Result.{ok};
-ghost use Rattle.reader.specs.Stages.Cells.{IsDirectory};
+ghost use Rattle.reader.specs.Stages.Cells.{of_cells};
 ghost use Rattle.reader.specs.Decode.{property_strings, object_strings};
-ghost use Rattle.reader.specs.Stages.StringObjects.{chosen_reply_of, chosen_property, string_property};
-ghost use Rattle.reader.specs.Stages.Opening.{Opens};
+ghost use Rattle.reader.specs.Stages.StringObjects.{chosen_property, string_property};
 ghost use Rattle.reader.specs.Queries.{object_record};
 ghost use Rattle.reader.specs.Replies.{DecodesStrings};
 
-use crate::cells::{CellReply, cell_at, check_directory};
-use crate::classes::check_string_class;
-use crate::file_wrapper::{FileWrapper, ParseReply};
-use crate::find::first_named;
-use crate::objects::{check_object, object_record};
-use crate::properties::{TriplesReply, record_triples};
+use crate::cells::Cells;
+use crate::file_wrapper::Metadata;
+use crate::properties::record_triples;
 use crate::records::Triple;
-use crate::saveobj::{StringsReply, decode_string_saveobj};
+use crate::saveobj::{DecodedSize, decode_string_saveobj};
 use text::error::MatError;
-use text::reply::Checked;
 
-// The property that leads to a string object's cell: the one named any, else the first. An object without properties has none.
-#[derive(Clone, Copy)]
-pub(crate) enum ChosenReply {
-    Property(Triple),
-    NoProperties,
-    Error(MatError),
-}
-
-// Checks 10 to 12 for an object that the blob has. A name is shown as any exactly where it is stored so, and stored bytes are compared.
-pub(crate) fn choose_property(blob: &[u8], w: FileWrapper, object_id: u32) -> ChosenReply
-    requires { Opens blob.now w × (object_id < w.records) }
-    ensures { chosen_reply_of result ≡ chosen_property blob.now w (object_record blob.now w object_id) }
+// The property that leads to a string object's cell: the one named any, else the first. An object without properties has none. Checks 10 to
+// 12 for an object that the blob has. A name is shown as any exactly where it is stored so, and stored bytes are compared.
+#[tactic(auto, unfolding(crate::specs::Stages::StringObjects::chosen_property))]
+fn choose_property(metadata: Metadata, object_id: u32) -> Result<Option<Triple>, MatError>
+    requires { object_id < metadata.w.records }
+    ensures { let m = metadata.entry in
+        outcome result ≡ chosen_property m.blob.now m.w (object_record m.blob.now m.w object_id) }
 {
-    match record_triples(blob, w, object_id) {
-        TriplesReply::Triples { w: _, at, count } => {
-            if count == 0 {
-                return ChosenReply::NoProperties;
-            }
-            let any = first_named(blob, w, at, count, b"any");
-            if any == count {
-                return ChosenReply::Property(Triple::read(blob, at));
-            }
-            ChosenReply::Property(Triple::read(blob, at + Triple::SIZE * any))
-        }
-        TriplesReply::Error(e) => ChosenReply::Error(e),
+    let triples = record_triples(metadata, object_id)?;
+    if triples.count == 0 {
+        return Ok(None);
     }
+    let any = triples.first_named(b"any").unwrap_or(0);
+    Ok(Some(triples.get(any)))
 }
 
 // The same for any id: checks 8, 9, 11 and 16 for the class before them.
-fn string_property(blob: &[u8], w: FileWrapper, object_id: u32) -> ChosenReply
-    requires { Opens blob.now w }
-    ensures { chosen_reply_of result ≡ string_property blob.now w object_id }
+fn string_property(metadata: Metadata, object_id: u32) -> Result<Option<Triple>, MatError>
+    ensures { outcome result ≡ string_property metadata.entry.blob.now metadata.entry.w object_id }
 {
-    if let Checked::Failed(e) = check_object(w, object_id) {
-        return ChosenReply::Error(e);
-    }
-    let class_id = object_record(blob, w, object_id).class_id;
-    if let Checked::Failed(e) = check_string_class(blob, w, class_id) {
-        return ChosenReply::Error(e);
-    }
-    choose_property(blob, w, object_id)
+    metadata.check_object(object_id)?;
+    let class_id = metadata.object_record(object_id).class_id;
+    metadata.check_string_class(class_id)?;
+    choose_property(metadata, object_id)
 }
 
 // The strings of the cell that a property leads to: checks 16, 14 and 15, then those of its payload.
 fn decode_property(
-    directory: &[u64],
-    kinds: &[u8],
-    words: &[u64],
+    cells: Cells,
     property: Triple,
     text: &mut [u8],
     spans: &mut [u64],
-) -> StringsReply
-    requires { IsDirectory directory.now kinds.now (length words.now) }
-    ensures { let strings = property_strings directory.now kinds.now words.now property in
+) -> Result<DecodedSize, MatError>
+    ensures { let strings = of_cells property_strings cells.entry property in
         DecodesStrings strings text.old spans.old result text.new spans.new }
 {
     if property.field_type != 1 {
-        return StringsReply::Error(MatError::NotStringObject(1));
+        return Err(MatError::NotStringObject(1));
     }
     let value = property.value;
-    match cell_at(directory, kinds, words, value, value) {
-        CellReply::Cell { start, end } => { decode_string_saveobj(&words[start..end], text, spans) }
-        CellReply::Error(e) => StringsReply::Error(e),
-    }
+    let payload = cells.cell_at(value, value)?;
+    decode_string_saveobj(payload, text, spans)
 }
 
 // One empty string: no bytes of text, and its span at the start of spans.
-fn write_empty(spans: &mut [u64]) -> StringsReply
+fn write_empty(spans: &mut [u64]) -> Result<DecodedSize, MatError>
     ensures { DecodesStrings (ok ([] ∷ [])) [] spans.old result [] spans.new }
 {
     if spans.len() < 2 {
-        return StringsReply::Error(MatError::OutputTooShort(2));
+        return Err(MatError::OutputTooShort(2));
     }
     spans[0] = 0;
     spans[1] = 0;
-    StringsReply::Strings {
+    Ok(DecodedSize {
         bytes: 0,
         strings: 1,
-    }
+    })
 }
 
 // The strings of a string object through its own property (01's second road), as UTF-8 text end to end at the start of text, with their
@@ -110,24 +84,15 @@ pub fn decode_string_object(
     object_id: u32,
     text: &mut [u8],
     spans: &mut [u64],
-) -> StringsReply
+) -> Result<DecodedSize, MatError>
     ensures { let cells = object_strings blob.now directory.now kinds.now words.now in
         let strings = cells object_id in
         DecodesStrings strings text.old spans.old result text.new spans.new }
 {
-    match FileWrapper::parse(blob) {
-        ParseReply::Parsed(w) => {
-            if let Checked::Failed(e) = check_directory(directory, kinds, words.len()) {
-                return StringsReply::Error(e);
-            }
-            match string_property(blob, w, object_id) {
-                ChosenReply::Property(property) => {
-                    decode_property(directory, kinds, words, property, text, spans)
-                }
-                ChosenReply::NoProperties => write_empty(spans),
-                ChosenReply::Error(e) => StringsReply::Error(e),
-            }
-        }
-        ParseReply::Error(e) => StringsReply::Error(e),
+    let metadata = Metadata::open(blob)?;
+    let cells = Cells::new(directory, kinds, words)?;
+    match string_property(metadata, object_id)? {
+        Some(property) => decode_property(cells, property, text, spans),
+        None => write_empty(spans),
     }
 }

@@ -7,6 +7,7 @@ ghost use Rattle.reader.specs.Units.{unit_at, units_in};
 ghost use Rattle.reader.specs.Stages.Units.{is_packed, UnitsFit, TwoFit, ThreeFit, PairFits};
 
 // Unit k of the words from index first on.
+#[tactic(auto, unfolding(crate::specs::Units::unit_at))]
 pub(crate) fn unit_at(words: &[u64], first: usize, k: usize) -> u16
     requires { first + k / 4 < length words.now }
     ensures { result ≡ unit_at words.now first k }
@@ -36,7 +37,8 @@ pub(crate) fn is_pair(unit: u16, next: u16) -> bool
     0xDC00 <= next && next <= 0xDFFF
 }
 
-// Writes the two bytes of a unit from 0x80 on and below 0x800 into out from index at on, and returns the index after them.
+// Writes the two bytes of a unit from 0x80 on and below 0x800 into out from index at on, and returns the index after them. It and the two
+// below stand beside text's put_utf8 for speed: put_text knows the size of a unit already, and they stay in 16 bits.
 fn put_two(unit: u16, out: &mut [u8], at: usize) -> usize
     requires { TwoFit unit at (length out.old) }
     ensures { Puts out.old at (utf8 unit) result out.new }
@@ -109,6 +111,7 @@ pub(crate) fn put_text(
 }
 
 // Whether the n units from word first on fill the words to their end, with zeros after the last one.
+#[tactic(auto, unfolding(crate::specs::Stages::Units::is_packed))]
 pub(crate) fn is_packed(words: &[u64], first: usize, n: usize) -> bool
     requires { (first ≤ length words.now) × (n ≤ 4 * (length words.now - first)) }
     ensures { result ≡ is_packed words.now first n }

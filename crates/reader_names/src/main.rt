@@ -2,15 +2,12 @@
 // replaced; then a label for each name of a sample, as a screen that repairs nothing shows it.
 #![tactic(auto)]
 
-ghost use Rattle.std.specs.Prelude.{◌≤◌, IfOk, length};
-
-use reader::file_wrapper::{FileWrapper, ParseReply};
+use printing::input::read_full;
+use reader::file_wrapper::FileWrapper;
 use reader::labels;
-use reader::labels::{LabelReply, Source};
+use reader::labels::Source;
 use std::io;
-use std::io::Read;
 use text::error::MatError;
-use text::utf8::LossyReply;
 
 // A blob with no classes and no objects and three names: a sound one, an empty one, and one whose last character is cut off.
 const SAMPLE: [u8; 60] =
@@ -30,14 +27,11 @@ fn print_label<'a>(
 ) -> io::Result<()> {
     print!(rt; "label {index}")?;
     match labels::label_source(blob, placeholder, index) {
-        LabelReply::Part(p) => {
-            let source = p.source;
-            match source {
-                Source::Blob => print!(rt; " blob ")?,
-                Source::Placeholder => print!(rt; " placeholder ")?,
-            }
-        }
-        LabelReply::Error(e) => print_refusal(rt, e)?,
+        Ok(part) => match part.source {
+            Source::Blob => print!(rt; " blob ")?,
+            Source::Placeholder => print!(rt; " placeholder ")?,
+        },
+        Err(e) => print_refusal(rt, e)?,
     }
     rt.write_all(labels::label(blob, placeholder, index))?;
     println!(rt)
@@ -55,39 +49,24 @@ fn print_labels<'a>(
     print_label(rt, blob, placeholder, names)
 }
 
-// Reads until buf is full or the input ends, and returns how many bytes came.
-fn read_full(reader: &mut impl Read, buf: &mut [u8]) -> io::Result<usize>
-    ensures { IfOk result (λ n. n ≤ length buf.new) }
-{
-    let mut n: usize = 0;
-    while n < buf.len() {
-        let got = reader.read(&mut buf[n..])?;
-        if got == 0 {
-            return Ok(n);
-        }
-        n += got;
-    }
-    Ok(n)
-}
-
 fn print_repaired(rt: &(impl Input + Print)) -> io::Result<()> {
     let name: &mut [u8] = &mut [0u8; 4096];
     let n = read_full(&mut rt.reader(), name)?;
     let mut shown = [0u8; 12288];
     match text::utf8::write_lossy(&name[..n], &mut shown) {
-        LossyReply::Written { bytes, replaced } => {
-            rt.write_all(&shown[..bytes])?;
-            println!(rt; "\nreplaced {replaced}")
+        Ok(size) => {
+            rt.write_all(&shown[..size.bytes])?;
+            println!(rt; "\nreplaced {}", size.replaced)
         }
-        LossyReply::TooShort(need) => println!(rt; "too long: {need}"),
+        Err(e) => println!(rt; "too long: {}", e.failure().place),
     }
 }
 
 fn main(rt: HostRuntime) -> io::Result<()> {
     print_repaired(&rt)?;
     match FileWrapper::parse(&SAMPLE) {
-        ParseReply::Parsed(w) => print_labels(&rt, &SAMPLE, b"(unnamed)", w.names),
-        ParseReply::Error(e) => {
+        Ok(w) => print_labels(&rt, &SAMPLE, b"(unnamed)", w.names),
+        Err(e) => {
             print!(rt; "sample")?;
             print_refusal(&rt, e)?;
             println!(rt)

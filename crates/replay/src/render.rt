@@ -1,328 +1,144 @@
-// Our answer as a line has it, from `=` to `#`, in a buffer. A function that takes an index writes from there on, and returns the
-// index after what it wrote. What does not fit is dropped: the buffer is as long as the longest line, so no line holds such an answer.
-ghost use Rattle.std.specs.Prelude.{◌<◌, ◌≤◌};
-
-use reader::labels::{Part, Source};
-use reader::objects::ObjectRow;
-use reader::properties::ROW_WIDTH;
-use text::error::MatError;
+// What a line says, and answers as a line has them.
+use reader::labels::Source;
+use std::convert::AsSlice;
+use std::fmt::{self, Display, Formatter, Write};
 use text::latin9::code_point;
 
-fn byte(value: u8, out: &mut [u8], at: usize) -> usize {
-    if at < out.len() {
-        out[at] = value;
-        return at + 1;
-    }
-    at
+// Why a line does not agree.
+#[derive(Clone, Copy, Debug, PartialEq, Eq)]
+pub enum Fault {
+    Differs,
+    Unreadable,
+    Unknown,
 }
 
-fn word(bytes: &[u8], out: &mut [u8], at: usize) -> usize {
-    let mut next = at;
-    let mut i = 0;
-    while i < bytes.len() {
-        next = byte(bytes[i], out, next);
-        i += 1;
-    }
-    next
-}
-
-fn decimal(value: u64, out: &mut [u8], at: usize) -> usize {
-    let mut digits = [0u8; 20];
-    let n = io::decimal(value, &mut digits);
-    word(&digits[..n], out, at)
-}
-
-// At least as many digits as the width.
-fn hex(value: u64, width: usize, out: &mut [u8], at: usize) -> usize {
-    let mut digits = [0u8; 16];
-    let n = io::hex(value, width, &mut digits);
-    word(&digits[..n], out, at)
-}
-
-// Whether a buffer still holds zeros from an index on, as all of it did before the call.
-pub fn is_untouched(buffer: &[u8], start: usize) -> bool {
-    buffer.iter().skip(start).all(|byte| *byte == 0)
-}
-
-pub fn are_words_untouched(buffer: &[u64], start: usize) -> bool {
-    buffer.iter().skip(start).all(|word| *word == 0)
-}
-
-pub fn are_rows_untouched(rows: &[[u32; ROW_WIDTH]], start: usize) -> bool {
-    rows.iter().skip(start).all(|row| *row == [0; ROW_WIDTH])
-}
-
-// The first n bytes of a buffer, `-` for none. A call that wrote past them agrees with no line.
-fn bytes(buffer: &[u8], n: usize, out: &mut [u8], at: usize) -> usize {
-    if buffer.len() < n || !is_untouched(buffer, n) {
-        return word(b"overrun", out, at);
-    }
-    if n == 0 {
-        return word(b"-", out, at);
-    }
-    let mut next = at;
-    for value in &buffer[..n] {
-        next = hex(*value as u64, 2, out, next);
-    }
-    next
-}
-
-// The first n words of a buffer, with commas between them, in the same way.
-fn words(buffer: &[u64], n: usize, out: &mut [u8], at: usize) -> usize {
-    if buffer.len() < n || !are_words_untouched(buffer, n) {
-        return word(b"overrun", out, at);
-    }
-    if n == 0 {
-        return word(b"-", out, at);
-    }
-    let mut next = hex(buffer[0], 1, out, at);
-    for value in &buffer[1..n] {
-        next = byte(b',', out, next);
-        next = hex(*value, 1, out, next);
-    }
-    next
-}
-
-pub fn text(buffer: &[u8], n: usize, out: &mut [u8]) -> usize {
-    let at = word(b"= ok ", out, 0);
-    let at = bytes(buffer, n, out, at);
-    word(b" #", out, at)
-}
-
-// The same with the number of its replacement characters.
-pub fn shown(buffer: &[u8], n: usize, replaced: usize, out: &mut [u8]) -> usize {
-    let at = word(b"= ok ", out, 0);
-    let at = bytes(buffer, n, out, at);
-    let at = word(b" ", out, at);
-    let at = decimal(replaced as u64, out, at);
-    word(b" #", out, at)
-}
-
-pub fn payload(buffer: &[u64], n: usize, out: &mut [u8]) -> usize {
-    let at = word(b"= ok ", out, 0);
-    let at = words(buffer, n, out, at);
-    word(b" #", out, at)
-}
-
-fn row(row: [u32; ROW_WIDTH], out: &mut [u8], at: usize) -> usize {
-    let at = two(row[0], row[1], out, at);
-    let at = word(b",", out, at);
-    let at = decimal(row[2] as u64, out, at);
-    let at = word(b",", out, at);
-    two(row[3], row[4], out, at)
-}
-
-// What stands before row i.
-fn mark(i: usize) -> u8 {
-    if i == 0 { b' ' } else { b';' }
-}
-
-fn row_list(rows: &[[u32; ROW_WIDTH]], out: &mut [u8], at: usize) -> usize {
-    let mut next = at;
-    for (i, values) in rows.iter().enumerate() {
-        next = byte(mark(i), out, next);
-        next = row(*values, out, next);
-    }
-    next
-}
-
-pub fn rows(rows: &[[u32; ROW_WIDTH]], n: usize, out: &mut [u8]) -> usize {
-    if rows.len() < n {
-        return word(b"overrun", out, 0);
-    }
-    if !are_rows_untouched(rows, n) {
-        return word(b"overrun", out, 0);
-    }
-    let at = word(b"= ok", out, 0);
-    let at = row_list(&rows[0..n], out, at);
-    word(b" #", out, at)
-}
-
-// Two numbers with a comma between them.
-fn two(first: u32, second: u32, out: &mut [u8], at: usize) -> usize {
-    let at = decimal(first as u64, out, at);
-    let at = word(b",", out, at);
-    decimal(second as u64, out, at)
-}
-
-fn object(row: ObjectRow, out: &mut [u8], at: usize) -> usize {
-    let at = two(row.class_id, row.region, out, at);
-    let at = word(b",", out, at);
-    two(row.block_id, row.property_count, out, at)
-}
-
-fn is_blank(row: ObjectRow) -> bool {
-    row.class_id == 0 && row.region == 0 && row.block_id == 0 && row.property_count == 0
-}
-
-pub fn are_objects_untouched(rows: [ObjectRow; 8], start: usize) -> bool {
-    rows.iter().skip(start).all(|row| is_blank(*row))
-}
-
-fn object_list(rows: [ObjectRow; 8], n: usize, out: &mut [u8], at: usize) -> usize
-    requires { n ≤ 8 }
-{
-    let mut next = at;
-    for (i, row) in rows[..n].iter().enumerate() {
-        next = byte(mark(i), out, next);
-        next = object(*row, out, next);
-    }
-    next
-}
-
-pub fn objects(rows: [ObjectRow; 8], n: usize, out: &mut [u8]) -> usize {
-    if 8 < n {
-        return word(b"overrun", out, 0);
-    }
-    if !are_objects_untouched(rows, n) {
-        return word(b"overrun", out, 0);
-    }
-    let at = word(b"= ok", out, 0);
-    let at = object_list(rows, n, out, at);
-    word(b" #", out, at)
-}
-
-pub fn strings(text: &[u8], length: usize, spans: &[u64], n: usize, out: &mut [u8]) -> usize {
-    let at = word(b"= ok ", out, 0);
-    let at = bytes(text, length, out, at);
-    let at = word(b" ", out, at);
-    if spans.len() / 2 < n {
-        return word(b"overrun", out, at);
-    }
-    let at = words(spans, 2 * n, out, at);
-    word(b" #", out, at)
-}
-
-pub fn number(value: u64, out: &mut [u8]) -> usize {
-    let at = word(b"= ok ", out, 0);
-    let at = decimal(value, out, at);
-    word(b" #", out, at)
-}
-
-pub fn accepted(out: &mut [u8]) -> usize {
-    word(b"= ok #", out, 0)
-}
-
-// A line of the table of ISO 8859-15, its end as a line has it.
-fn table_line(byte: u8, out: &mut [u8], at: usize) -> usize {
-    let at = hex(byte as u64, 2, out, at);
-    let at = word(b" ", out, at);
-    let at = hex(code_point(byte) as u64, 4, out, at);
-    word(b"\\n", out, at)
-}
-
-fn table_lines(first: usize, last: usize, out: &mut [u8], at: usize) -> usize
-    requires { last < 256 }
-{
-    let mut next = at;
-    for i in first..=last {
-        next = table_line(i as u8, out, next);
-    }
-    next
-}
-
-// The lines of bytes first to last.
-pub fn table(first: usize, last: usize, out: &mut [u8]) -> usize
-    requires { last < 256 }
-{
-    let at = word(b"= ok ", out, 0);
-    let at = table_lines(first, last, out, at);
-    word(b" #", out, at)
-}
-
-pub fn none(out: &mut [u8]) -> usize {
-    word(b"= ok none #", out, 0)
-}
-
-// Three numbers with spaces between them.
-fn three(first: u64, second: u64, third: u64, out: &mut [u8], at: usize) -> usize {
-    let at = decimal(first, out, at);
-    let at = word(b" ", out, at);
-    let at = decimal(second, out, at);
-    let at = word(b" ", out, at);
-    decimal(third, out, at)
-}
-
-pub fn numbers(first: u64, second: u64, third: u64, out: &mut [u8]) -> usize {
-    let at = word(b"= ok ", out, 0);
-    let at = three(first, second, third, out, at);
-    word(b" #", out, at)
-}
-
-// The whole buffers of a store.
-fn buffers(
-    blob: &[u8],
-    directory: &[u64],
-    kinds: &[u8],
-    cells: &[u64],
-    out: &mut [u8],
-    at: usize,
-) -> usize {
-    let at = bytes(blob, blob.len(), out, at);
-    let at = word(b" ", out, at);
-    let at = words(directory, directory.len(), out, at);
-    let at = word(b" ", out, at);
-    let at = bytes(kinds, kinds.len(), out, at);
-    let at = word(b" ", out, at);
-    words(cells, cells.len(), out, at)
-}
-
-// A store after an edit: its counts, then its buffers.
-pub fn edited(
-    objects: u64,
-    blob_bytes: u64,
-    used: u64,
-    blob: &[u8],
-    directory: &[u64],
-    kinds: &[u8],
-    cells: &[u64],
-    out: &mut [u8],
-) -> usize {
-    let at = word(b"= ok ", out, 0);
-    let at = three(objects, blob_bytes, used, out, at);
-    let at = word(b" ", out, at);
-    let at = buffers(blob, directory, kinds, cells, out, at);
-    word(b" #", out, at)
-}
-
-fn buffer_name(source: Source, out: &mut [u8], at: usize) -> usize {
-    match source {
-        Source::Blob => word(b"blob", out, at),
-        Source::Placeholder => word(b"placeholder", out, at),
+impl Display for Fault {
+    fn fmt<W: Write>(&self, f: &mut Formatter<W>) -> fmt::Result {
+        f.write_str(match self {
+            Fault::Differs => "differs",
+            Fault::Unreadable => "unreadable",
+            Fault::Unknown => "unknown",
+        })
     }
 }
 
-// Where a part lies: its buffer, its first byte there, and its length.
-fn place(part: Part, out: &mut [u8], at: usize) -> usize {
-    let source = part.source;
-    let at = buffer_name(source, out, at);
-    let at = word(b" ", out, at);
-    let at = decimal(part.start as u64, out, at);
-    let at = word(b" ", out, at);
-    decimal(part.length as u64, out, at)
+// What is left of a line's answer. What is written to it must come next there.
+#[derive(Drop)]
+pub struct Said<'a> {
+    pub rest: &'a [u8],
 }
 
-// A label, and where it was said to lie. One of another length agrees with no line.
-pub fn label(label: &[u8], part: Part, out: &mut [u8]) -> usize {
-    if label.len() != part.length {
-        return word(b"overrun", out, 0);
+impl Write for Said<'_> {
+    fn write_str(&mut self, text: &str) -> fmt::Result {
+        self.rest = self.rest.strip_prefix(text.as_bytes()).ok_or(fmt::Error)?;
+        Ok(())
     }
-    let at = word(b"= ok ", out, 0);
-    let at = place(part, out, at);
-    let at = word(b" ", out, at);
-    let at = bytes(label, label.len(), out, at);
-    word(b" #", out, at)
 }
 
-// A refusal. One that wrote to a buffer agrees with no line.
-pub fn refusal(error: MatError, is_untouched: bool, out: &mut [u8]) -> usize {
-    if !is_untouched {
-        return word(b"overrun", out, 0);
+// Whether a buffer still holds zeros alone, as it did before the call.
+pub fn is_blank<T: Default + PartialEq + Drop>(buffer: &[T]) -> bool {
+    buffer.iter().all(|item| *item == T::default())
+}
+
+// The first n elements of a buffer. A call that wrote past them agrees with no line.
+pub fn written<T: Default + PartialEq + Drop>(buffer: &[T], n: usize) -> Result<&[T], Fault> {
+    let (written, rest) = buffer.split_at_checked(n).ok_or(Fault::Differs)?;
+    if is_blank(rest) {
+        Ok(written)
+    } else {
+        Err(Fault::Differs)
     }
-    let failure = error.failure();
-    let at = word(b"= no ", out, 0);
-    let at = decimal(failure.number as u64, out, at);
-    let at = word(b" ", out, at);
-    let at = decimal(failure.place, out, at);
-    word(b" #", out, at)
+}
+
+// Bytes of two digits, `-` for none.
+#[derive(Clone, Copy)]
+pub struct Bytes<'a>(pub &'a [u8]);
+
+impl Display for Bytes<'_> {
+    fn fmt<W: Write>(&self, f: &mut Formatter<W>) -> fmt::Result {
+        if self.0.is_empty() {
+            return f.write_str("-");
+        }
+        for byte in self.0 {
+            write!(f, "{byte:02x}")?;
+        }
+        Ok(())
+    }
+}
+
+// Words in hexadecimal with commas between them, `-` for none.
+#[derive(Clone, Copy)]
+pub struct Words<'a>(pub &'a [u64]);
+
+impl Display for Words<'_> {
+    fn fmt<W: Write>(&self, f: &mut Formatter<W>) -> fmt::Result {
+        let Some((first, others)) = self.0.split_first() else {
+            return f.write_str("-");
+        };
+        write!(f, "{first:x}")?;
+        for word in others {
+            write!(f, ",{word:x}")?;
+        }
+        Ok(())
+    }
+}
+
+// Numbers with commas between them.
+#[derive(Clone, Copy)]
+struct Numbers<'a>(&'a [u32]);
+
+impl Display for Numbers<'_> {
+    fn fmt<W: Write>(&self, f: &mut Formatter<W>) -> fmt::Result {
+        for (i, number) in self.0.iter().enumerate() {
+            let comma = if i == 0 { "" } else { "," };
+            write!(f, "{comma}{number}")?;
+        }
+        Ok(())
+    }
+}
+
+// Rows, the first after a space and each other after a semicolon.
+#[derive(Clone, Copy)]
+pub struct Rows<'a, T>(pub &'a [T]);
+
+impl<T: AsSlice<u32>> Display for Rows<'_, T> {
+    fn fmt<W: Write>(&self, f: &mut Formatter<W>) -> fmt::Result {
+        for (i, row) in self.0.iter().enumerate() {
+            let mark = if i == 0 { ' ' } else { ';' };
+            let numbers = Numbers(row.as_slice());
+            write!(f, "{mark}{numbers}")?;
+        }
+        Ok(())
+    }
+}
+
+// Lines of the table of ISO 8859-15, their ends as a line has them.
+#[derive(Clone, Copy)]
+pub struct Table {
+    pub first: usize,
+    pub last: u8,
+}
+
+impl Display for Table {
+    fn fmt<W: Write>(&self, f: &mut Formatter<W>) -> fmt::Result {
+        for i in self.first..=usize::from(self.last) {
+            let byte = i as u8;
+            let code = code_point(byte);
+            write!(f, "{byte:02x} {code:04x}\\n")?;
+        }
+        Ok(())
+    }
+}
+
+// The buffer of a label.
+#[derive(Clone, Copy)]
+pub struct Buffer(pub Source);
+
+impl Display for Buffer {
+    fn fmt<W: Write>(&self, f: &mut Formatter<W>) -> fmt::Result {
+        f.write_str(match self.0 {
+            Source::Blob => "blob",
+            Source::Placeholder => "placeholder",
+        })
+    }
 }

@@ -7,22 +7,23 @@ use mathlib.Core.List.{List, [], ◌∷◌, ◌++◌, map, flat_map}
 use mathlib.Core.Logic.{◌↔◌}
 use native.Mathlib.Numerals.{add-one}
 use native.Mathlib.Omega.{arith}
-use borrow.Author.Tests.{eq-eqb, eqb-true}
+use borrow.Author.Tests.{le-leb, eq-eqb, eqb-true}
 use lib.Dec.{eqb}
 use lib.ListN.{length, take, drop, replicate, length-take, length-drop, length-map, take-append-drop}
 use lib.Seq.{drop-drop, drop-cons, drop-length, take-length}
+use Rattle.std.specs.List.{list_all}
 use Rattle.text.specs.Buffer.{same}
 use Rattle.text.proofs.SameLaws.{same_is, same_refl}
 use Rattle.text.proofs.TestLaws.{and_is}
 use Rattle.writer.specs.Array.{Array, payload, payloads, payload_spans}
-use Rattle.writer.specs.FileWrapper.{file_wrapper}
+use Rattle.writer.specs.FileWrapper.{file_wrapper, is_file_wrapper}
 use Rattle.writer.specs.Spans.{offset_at, length_at, string_at, strings_from, spans_from}
 use Rattle.writer.proofs.LayoutLaws.{span_offset, span_end}
 use Rattle.writer.proofs.StringWordLaws.{length_strings}
 use Rattle.reader.specs.Saveobj.{decoded_array, is_canonical_payload}
 use Rattle.reader.proofs.saveobj.Canonical.{canonical_is, canonical_accepted}
 use Rattle.store.specs.Store.{Store, store_of, serialize, cells, stored_arrays, every, same_store, is_canonical}
-use Rattle.store.specs.Stages.{cells_walk, CellsInside}
+use Rattle.store.specs.Stages.{cells_walk, CellsInside, CutChecked}
 use Rattle.store.proofs.StoreLaws.{AllAccepted, both, same_store_refl, stored_are, serialized_canonical}
 
 same_bool : (s t : Bool) → (s ≡ true → t ≡ true) → (t ≡ true → s ≡ true) → s ≡ t
@@ -93,51 +94,56 @@ serialized_walks xs (suc k) i h e =
     both (eqb (offset_at (payload_spans 0 xs) i) (length (payloads (take i xs)))) _ (eq-eqb _ _ o)
     (both (is_canonical_payload (string_at (payloads xs) (payload_spans 0 xs) i)) _ p.0 (rw n (serialized_walks xs k (suc i) (omega arith) p.1)))
 
--- ---- check 33 by its parts, for a store that is cut to its counts
+-- ---- check 33 by its parts, for a store that is cut to its counts, once 13 holds
 
-module _ (n : ℕ) (b d ks w : List ℕ) where
-  abbrev cut : Store
-  cut = store_of n (length b) (length w) b d ks w
+zeros : (ks : List ℕ) (n : ℕ) → length ks ≡ n → list_all (λ k. eqb k 0) ks ≡ same ks (replicate n 0)
+unfolding same
+zeros [] zero e = refl
+zeros [] (suc n) e = absurd (omega arith)
+zeros (k ∷ ks) zero e = absurd (omega arith)
+zeros (k ∷ ks) (suc n) e = ap (λ (b : Bool). eqb k 0 && b) (zeros ks n (omega arith))
 
+module _ (s : Store) (c : CutChecked s) where
   abbrev xs : List Array
-  xs = stored_arrays cut
+  xs = stored_arrays s
 
-  arrays : length xs ≡ n
-  arrays = length-map (cells cut) decoded_array ∙ length_strings w d 0 n
+  arrays : length xs ≡ s.objects
+  arrays = length-map (cells s) decoded_array ∙ length_strings s.words s.directory 0 s.objects
 
-  module _ (c : CellsInside d (length w) n) where
-    -- what the code looks at
-    unfoldable pub by_parts : Bool
-    by_parts = same b (file_wrapper n) && (same ks (replicate n 0) && cells_walk d w 0 n 0)
+  by_parts : Bool
+  by_parts = same s.blob (file_wrapper s.objects) && (same s.kinds (replicate s.objects 0) && cells_walk s.directory s.words 0 s.objects 0)
 
-    parts_canonical : by_parts ≡ true → is_canonical cut ≡ true
-    unfolding by_parts is_canonical
-    parts_canonical e =
-        let p = and_is (same b (file_wrapper n)) _ e in
-        let q = and_is (same ks (replicate n 0)) _ p.1 in
-        let f = walk_found d w n c n 0 0 (omega arith) q.1 in
-        let bs : b ≡ file_wrapper n = same_is b (file_wrapper n) p.0 in
-        let is : cut ≡ serialize xs =
-        store_path (sym arrays) (rw arrays (ap length bs)) (ap length f.rest) (rw arrays bs) f.pairs (rw arrays (same_is ks (replicate n 0) q.0)) f.rest in
-        both (every is_canonical_payload (cells cut)) (same_store cut (serialize xs)) f.canonical
-        (ap (λ (t : Store). same_store cut t) (sym is) ∙ same_store_refl cut)
+  parts_canonical : by_parts ≡ true → is_canonical s ≡ true
+  unfolding by_parts is_canonical
+  parts_canonical e =
+      let p = and_is (same s.blob (file_wrapper s.objects)) _ e in
+      let q = and_is (same s.kinds (replicate s.objects 0)) _ p.1 in
+      let f = walk_found s.directory s.words s.objects c.cells s.objects 0 0 (omega arith) q.1 in
+      let bs : s.blob ≡ file_wrapper s.objects = same_is s.blob (file_wrapper s.objects) p.0 in
+      let is : s ≡ serialize xs =
+      store_path (sym arrays) (sym c.cut.blob ∙ rw arrays (ap length bs)) (sym c.cut.words ∙ ap length f.rest) (rw arrays bs) f.pairs
+      (rw arrays (same_is s.kinds (replicate s.objects 0) q.0)) f.rest in
+      both (every is_canonical_payload (cells s)) (same_store s (serialize xs)) f.canonical
+      (ap (λ (t : Store). same_store s t) (sym is) ∙ same_store_refl s)
 
-    canonical_parts : is_canonical cut ≡ true → by_parts ≡ true
-    unfolding by_parts is_canonical payloads flat_map
-    canonical_parts e =
-        let p = and_is (every is_canonical_payload (cells cut)) _ e in
-        let is : cut ≡ serialize xs = same_store_is cut (serialize xs) p.1 in
-        let bs : b ≡ file_wrapper n = rw arrays at (ap (λ (s : Store). s.blob) is) in
-        let zs : ks ≡ replicate n 0 = rw arrays at (ap (λ (s : Store). s.kinds) is) in
-        let ds : d ≡ payload_spans 0 xs = ap (λ (s : Store). s.directory) is in
-        let ws : w ≡ payloads xs = ap (λ (s : Store). s.words) is in
-        both (same b (file_wrapper n)) _ (ap (λ (x : List ℕ). same x (file_wrapper n)) bs ∙ same_refl (file_wrapper n))
-        (both (same ks (replicate n 0)) _ (ap (λ (x : List ℕ). same x (replicate n 0)) zs ∙ same_refl (replicate n 0))
-        (ap₂ (λ (x y : List ℕ). cells_walk x y 0 n 0) ds ws
-        ∙ serialized_walks xs n 0 (omega (arith, arrays)) (sym (ap₂ (λ (x y : List ℕ). every is_canonical_payload (strings_from y x 0 n)) ds ws) ∙ p.0)))
+  canonical_parts : is_canonical s ≡ true → by_parts ≡ true
+  unfolding by_parts is_canonical payloads flat_map
+  canonical_parts e =
+      let p = and_is (every is_canonical_payload (cells s)) _ e in
+      let is : s ≡ serialize xs = same_store_is s (serialize xs) p.1 in
+      let bs : s.blob ≡ file_wrapper s.objects = rw arrays at (ap (λ (t : Store). t.blob) is) in
+      let zs : s.kinds ≡ replicate s.objects 0 = rw arrays at (ap (λ (t : Store). t.kinds) is) in
+      let ds : s.directory ≡ payload_spans 0 xs = ap (λ (t : Store). t.directory) is in
+      let ws : s.words ≡ payloads xs = ap (λ (t : Store). t.words) is in
+      both (same s.blob (file_wrapper s.objects)) _ (ap (λ (x : List ℕ). same x (file_wrapper s.objects)) bs ∙ same_refl (file_wrapper s.objects))
+      (both (same s.kinds (replicate s.objects 0)) _ (ap (λ (x : List ℕ). same x (replicate s.objects 0)) zs ∙ same_refl (replicate s.objects 0))
+      (ap₂ (λ (x y : List ℕ). cells_walk x y 0 s.objects 0) ds ws
+      ∙ serialized_walks xs s.objects 0 (omega (arith, arrays)) (sym (ap₂ (λ (x y : List ℕ). every is_canonical_payload (strings_from y x 0 s.objects)) ds ws) ∙ p.0)))
 
-    pub parts_are : by_parts ≡ is_canonical cut
-    parts_are = same_bool by_parts (is_canonical cut) parts_canonical canonical_parts
+  -- what the code looks at
+  pub parts_are : is_canonical s ≡ (is_file_wrapper s.objects s.blob && (list_all (λ k. eqb k 0) s.kinds && cells_walk s.directory s.words 0 s.objects 0))
+  unfolding by_parts is_file_wrapper
+  parts_are = same_bool (is_canonical s) by_parts canonical_parts parts_canonical ∙ rw (zeros s.kinds s.objects c.cut.kinds, le-leb s.objects 349522 c.few)
 
 -- ---- what check 33 means: there are accepted arrays whose serialization the store is, and they are those that its cells hold
 

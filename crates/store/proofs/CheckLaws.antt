@@ -1,110 +1,97 @@
--- The outcomes of checks 13 and 33 of an edit.
+-- The outcomes of the checks of an edit.
 -- Assumes nothing.
-use Prim.Native.Nat.{ℕ, suc, ◌+◌, ◌-◌, ◌*◌, ◌/◌, ◌%◌, ◌^◌, min, ◌≤◌, ◌<◌}
-use mathlib.Core.Path.{◌≡◌, refl, sym, ◌∙◌}
-use mathlib.Core.Bool.{Bool, true, false, not, ◌&&◌}
+use Prim.Native.Nat.{ℕ, suc, ◌+◌, ◌-◌, ◌*◌, ◌/◌, ◌%◌, ◌^◌, ◌≤◌, ◌<◌}
+use mathlib.Core.Path.{◌≡◌, sym, ap, subst, ◌∙◌}
+use mathlib.Core.Bool.{Bool, true, false, ◌&&◌}
 use mathlib.Core.List.{List}
 use native.Mathlib.Numerals.{add-one}
 use native.Mathlib.Omega.{arith}
 use borrow.Author.Tests.{le-leb, lt-leb, leb-true, eq-eqb, ne_eqb}
 use lib.Dec.{leb, eqb}
-use lib.ListN.{length, get_or, take, drop, replicate}
-use lib.Seq.{drop-cons, drop-length, length-take-le}
-use Rattle.text.specs.Buffer.{same}
+use lib.ListN.{length, take, drop, length-take}
+use lib.Seq.{length-take-le}
+use Rattle.std.specs.Prelude.{Option, None, IsErr, Result as Reply}
+use Rattle.std.specs.Result.{IsErrAnd}
+use Rattle.std.specs.List.{list_all}
 use Rattle.text.specs.Errors.{failure_of}
-use Rattle.text.specs.Replies.{checked_of}
-use Rattle.text.specs.Result.{Result, ok, error}
+use Rattle.text.specs.Result.{ok, error, ◌>>◌}
+use Rattle.text.specs.declared.error.Failure.{Failure}
 use Rattle.text.specs.declared.error.MatError.{MatError}
-use Rattle.text.specs.declared.error.MatError.TheVariants.{InvalidDirectory, NotCanonical, OutputTooShort}
-use Rattle.text.specs.declared.reply.Checked.{Checked}
-use Rattle.text.specs.declared.reply.Checked.TheVariants as checked
-use Rattle.text.proofs.ResultLaws.{reply_is, check_is, check_passed, check_each_passed}
-use Rattle.text.proofs.TestLaws.{not_both}
+use Rattle.text.specs.declared.error.MatError.TheVariants.{InvalidDirectory, LimitExceeded}
+use Rattle.text.proofs.ResultLaws.{check_is, check_passed, check_each_passed, seq_passed}
+use Rattle.text.proofs.TestLaws.{and_is, either}
 use Rattle.writer.specs.FileWrapper.{is_file_wrapper}
+use Rattle.writer.specs.Replies.{measured_payload}
 use Rattle.writer.specs.Spans.{offset_at, length_at, string_at}
+use Rattle.writer.proofs.ArrayLaws.{array_passed}
+use Rattle.writer.proofs.string_object.Payload.{measured_passed}
 use Rattle.reader.specs.Cells.{is_cell, check_directory}
 use Rattle.reader.proofs.cells.Laws.{cell_within}
 use Rattle.reader.specs.Saveobj.{is_canonical_payload}
-use Rattle.store.specs.Store.{Store, Lengths, store_of, counted, is_canonical}
-use Rattle.store.specs.Edits.{check_counts, check_counted, check_store, check_room}
-use Rattle.store.specs.Stages.{lengths, CellsInside, cells_walk, IsCut, CutChecked, CountsInside}
-use Rattle.store.proofs.CanonicalLaws.{by_parts, parts_are}
+use Rattle.store.specs.declared.array.StringArray.{StringArray}
+use Rattle.store.specs.declared.canonical.StoreRef.{StoreRef}
+use Rattle.store.specs.declared.checks.Accepted.{Accepted}
+use Rattle.store.specs.declared.counts.Counts.{Counts}
+use Rattle.store.specs.declared.edits.Edit.{Edit as Kind}
+use Rattle.store.specs.declared.edits.Edit.TheVariants as kind
+use Rattle.store.specs.Store.{Store, lengths_of, store_of, serialize, counted, cells, stored_arrays, every, is_canonical}
+use Rattle.store.specs.Edits.{check_counts, check_counted, check_store, check_object_count, check_room}
+use Rattle.store.specs.Model.{call}
+use Rattle.store.specs.Replies.{edit_in}
+use Rattle.store.proofs.CanonicalLaws.{same_store_is, parts_are}
+use Rattle.store.proofs.ReplyLaws.{err_is}
+use Rattle.store.proofs.CallLaws.{id_inside, call_is, old_within, words_of_are, words_with_are}
+use Rattle.store.specs.Stages.{CellsInside, cells_walk, IsCut, CutChecked, Cut, CutTo, StoreChecked, ArrayChecked, check_id, IdInside, EditMeasured, array_lent, objects_after, words_with, counts_after, arrays_after, Passes, Decides}
 
-not_true : (b : Bool) → not b ≡ true → b ≡ false
-not_true true e = not_both refl (sym e)
-not_true false e = refl
+-- ---- the counted part
 
-not_false : (b : Bool) → not b ≡ false → b ≡ true
-not_false true e = refl
-not_false false e = not_both (sym e) refl
-
--- ---- the counts
-
-module _ (o b u : ℕ) (bs ds ks ws : List ℕ) where
-  abbrev s : Store
-  s = store_of o b u bs ds ks ws
-
-  past : Result (Unit {0})
-  past = error (failure_of (InvalidDirectory o))
-
-  pub past_directory : length ds / 2 < o → error (failure_of (InvalidDirectory o)) ≡ check_counts s
+module _ (s : Store) where
+  past : (2 * s.objects ≤ length s.directory → s.objects ≤ length s.kinds → s.blob_bytes ≤ length s.blob → s.used_words ≤ length s.words → ⊥)
+      → check_counts s ≡ error (failure_of (InvalidDirectory s.objects))
   unfolding check_counts
-  past_directory h = simp (lt-leb (2 * o) (length ds) (omega arith))
+  past k =
+      either (leb (2 * s.objects) (length s.directory))
+      (λ d.
+      either (leb s.objects (length s.kinds))
+      (λ n.
+      either (leb s.blob_bytes (length s.blob))
+      (λ b.
+      either (leb s.used_words (length s.words))
+      (λ w.
+      absurd (k (leb-true (2 * s.objects) (length s.directory) d) (leb-true s.objects (length s.kinds) n) (leb-true s.blob_bytes (length s.blob) b) (leb-true s.used_words (length s.words) w)))
+      (λ w. simp (d, n, b, w)))
+      (λ b. simp (d, n, b)))
+      (λ n. simp (d, n)))
+      (λ d. simp d)
 
-  module _ (h : o ≤ length ds / 2) where
-    pairs : leb (2 * o) (length ds) ≡ true
-    pairs = le-leb (2 * o) (length ds) (omega arith)
+  pub cut_none : {r : Option StoreRef} → r ≡ None
+      → (2 * s.objects ≤ length s.directory → s.objects ≤ length s.kinds → s.blob_bytes ≤ length s.blob → s.used_words ≤ length s.words → ⊥) → CutTo s r
+  cut_none e k = subst (CutTo s) (sym e) (past k)
 
-    pub past_kinds : length ks < o → error (failure_of (InvalidDirectory o)) ≡ check_counts s
-    unfolding check_counts
-    past_kinds k = simp (pairs, lt-leb)
+-- the front of a list
+pub record Front (xs : List ℕ) (n : ℕ) (ys : List ℕ) : Type 0 where
+  pub fits : n ≤ length xs
+  pub is : ys ≡ take n xs
 
-    module _ (k : o ≤ length ks) where
-      pub past_blob : length bs < b → error (failure_of (InvalidDirectory o)) ≡ check_counts s
-      unfolding check_counts
-      past_blob m = simp (pairs, le-leb, lt-leb)
+-- as `get` gives it
+pub front : (xs : List ℕ) {m n : ℕ} {ys : List ℕ} → (0 ≤ m) × (m ≤ length xs) × (ys ≡ take (m - 0) (drop 0 xs)) × (length ys + 0 ≡ m) → m ≡ n → Front xs n ys
+front xs {m} f e =
+    let z : m - 0 ≡ m = omega arith in
+    record { fits = omega (arith, f.1); is = f.2 ∙ rw (z, e) }
 
-      module _ (m : b ≤ length bs) where
-        pub past_words : length ws < u → error (failure_of (InvalidDirectory o)) ≡ check_counts s
-        unfolding check_counts
-        past_words n = simp (pairs, le-leb, lt-leb)
-
-        pub counts_inside : u ≤ length ws → ok tt ≡ check_counts s
-        unfolding check_counts
-        counts_inside n = simp (pairs, le-leb)
-
-pub ruleset counting = (past_directory, past_kinds, past_blob, past_words, counts_inside)
-
--- ---- the kinds
-
-pub record Zeros (ks : List ℕ) (i : ℕ) : Type 0 where
-  pub bound : i ≤ length ks
-  pub rest : same ks (replicate (length ks) 0) ≡ same (drop i ks) (replicate (length ks - i) 0)
-
-pub zeros_start : (ks : List ℕ) → Zeros ks 0
-zeros_start ks = record { bound = omega arith; rest = let e : length ks - 0 ≡ length ks = omega arith in rw e }
-
-module _ (ks : List ℕ) (i : ℕ) (z : Zeros ks i) where
-  opened : i < length ks → same ks (replicate (length ks) 0) ≡ eqb (get_or ks i 0) 0 && same (drop (i + 1) ks) (replicate (length ks - (i + 1)) 0)
-  unfolding same
-  opened h =
-      let e : length ks - i ≡ suc (length ks - (i + 1)) = omega arith in
-      z.rest ∙ rw (e, drop-cons ks i 0 h, add-one i)
-
-  pub zeros_turn : i < length ks → get_or ks i 0 ≡ 0 → Zeros ks (i + 1)
-  zeros_turn h e = record { bound = omega arith; rest = opened h ∙ rw (eq-eqb (get_or ks i 0) 0 e) }
-
-  pub zeros_stop : i < length ks → (get_or ks i 0 ≡ 0 → ⊥) → false ≡ same ks (replicate (length ks) 0)
-  zeros_stop h e = rw (opened h, ne_eqb (get_or ks i 0) 0 e)
-
-  pub zeros_last : length ks ≤ i → true ≡ same ks (replicate (length ks) 0)
-  unfolding same
-  zeros_last h =
-      let e : i ≡ length ks = omega (arith, z.bound) in
-      let n : length ks - length ks ≡ 0 = omega arith in
-      rw (z.rest, e, n, drop-length ks)
-
-pub ruleset zeroing = (zeros_start, zeros_turn, zeros_stop, zeros_last)
+module _ (o b u : ℕ) {bs ds ks ws bs' ds' ks' ws' : List ℕ} (f : Front bs b bs') (g : Front ds (2 * o) ds') (h : Front ks o ks') (i : Front ws u ws') where
+  pub cut_some : Cut (store_of o b u bs ds ks ws) (store_of o b u bs' ds' ks' ws')
+  unfolding check_counts
+  cut_some = record {
+    inside = simp (le-leb (2 * o) (length ds) g.fits, le-leb o (length ks) h.fits, le-leb b (length bs) f.fits, le-leb u (length ws) i.fits);
+    is = rw (f.is, g.is, h.is, i.is);
+    cut = record {
+      blob = rw f.is (length-take-le b bs f.fits);
+      pairs = rw g.is (length-take-le (2 * o) ds g.fits);
+      kinds = rw h.is (length-take-le o ks h.fits);
+      words = rw i.is (length-take-le u ws i.fits);
+    };
+  }
 
 -- ---- the cells
 
@@ -151,165 +138,129 @@ module _ (d w : List ℕ) (n i end : ℕ) (c : CellsInside d (length w) n) (v : 
         next d w n i end v h
         ∙ rw (eq-eqb (offset_at d i) end (sym s ∙ e), ← cell_is, ← l, ← e)
 
-    pub walks_not : not b ≡ true → false ≡ cells_walk d w 0 n 0
-    walks_not k = rw (walk_is, not_true b k)
+    pub walks_not : b ≡ false → false ≡ cells_walk d w 0 n 0
+    walks_not k = rw (walk_is, k)
 
-    pub walks_turn : not b ≡ false → Walks d w n (i + 1) (start + len)
-    walks_turn k = record { bound = omega arith; inside = cell_ends; rest = walk_is ∙ rw (not_false b k) }
+    pub walks_turn : b ≡ true → Walks d w n (i + 1) (start + len)
+    walks_turn k = record { bound = omega arith; inside = cell_ends; rest = walk_is ∙ rw k }
 
 pub ruleset walking = (walks_start, walks_apart, walks_last, cell_ends, cell_adds, walks_not, walks_turn)
 
--- ---- a store that is cut to its counts
+-- ---- 33 and 13
 
-module _ (o : ℕ) (bs ds ks ws : List ℕ) (c : CutChecked o ds ks (length ws)) where
-  abbrev cut : Store
-  cut = store_of o (length bs) (length ws) bs ds ks ws
+module _ (s : Store) (c : CutChecked s) {b : Bool} (e : b ≡ is_file_wrapper s.objects s.blob) where
+  pub other_blob : b ≡ false → b ≡ is_canonical s
+  other_blob h = rw (parts_are s c, ← e, h)
 
-  canonical_parts : is_canonical cut ≡ is_file_wrapper o bs && (same ks (replicate (length ks) 0) && cells_walk ds ws 0 o 0)
-  unfolding by_parts is_file_wrapper
-  canonical_parts = sym (parts_are o bs ds ks ws c.cells) ∙ rw (c.cut.kind, le-leb o 349522 c.few)
+  module _ (h : b ≡ true) {z : Bool} (f : z ≡ list_all (λ k. eqb k 0) s.kinds) where
+    pub other_kinds : z ≡ false → z ≡ is_canonical s
+    other_kinds k = rw (parts_are s c, ← e, h, ← f, k)
 
-  module _ {b : Bool} (e : b ≡ is_file_wrapper o bs) where
-    pub other_blob : not b ≡ true → false ≡ is_canonical cut
-    other_blob h = rw (canonical_parts, ← e, not_true b h)
+    pub cells_decide : z ≡ true → {r : Bool} → r ≡ cells_walk s.directory s.words 0 s.objects 0 → r ≡ is_canonical s
+    cells_decide k m = rw (parts_are s c, ← e, h, ← f, k) m
 
-    module _ (h : not b ≡ false) {z : Bool} (f : z ≡ same ks (replicate (length ks) 0)) where
-      pub other_kinds : not z ≡ true → false ≡ is_canonical cut
-      other_kinds k = rw (canonical_parts, ← e, not_false b h, ← f, not_true z k)
+-- 13 of a store that is cut
+module _ (s : Store) (i : IsCut s) where
+  pub cut_checked : {u : Unit {0}} → ok u ≡ check_directory s.directory s.kinds (length s.words) → CutChecked s
+  unfolding check_directory
+  cut_checked e =
+      let n = length s.directory in
+      let even = check_passed 13 (eqb (n % 2) 0) n _ (sym e) in
+      let many = check_passed 13 (leb n 699044) n _ even.1 in
+      let kinds = check_passed 13 (eqb (length s.kinds) (n / 2)) n _ many.1 in
+      let half : n / 2 ≡ s.objects = omega (arith, i.pairs) in
+      record {
+        cut = i;
+        few = omega (arith, i.pairs, leb-true n 699044 many.0);
+        cells = record {
+          pairs = i.pairs;
+          inside =
+              λ j h.
+              cell_within s.directory (length s.words) j
+              (check_each_passed 13 (is_cell s.directory (length s.words)) 0 (n / 2) kinds.1 j (omega arith) (omega arith));
+        };
+      }
 
-      pub cells_decide : not z ≡ false → {n : ℕ} → n ≡ o → {r : Bool} → r ≡ cells_walk ds ws 0 n 0 → r ≡ is_canonical cut
-      cells_decide k m r = rw (canonical_parts, ← e, not_false b h, ← f, not_false z k, ← m) r
+-- ---- the checks of an edit
 
-pub cells_there : {o : ℕ} {ds ks : List ℕ} {words : ℕ} → CutChecked o ds ks words → {n : ℕ} → n ≡ o → CellsInside ds words n
-cells_there c e = rw e c.cells
-
-pub ruleset canonical_outcomes = (other_blob, other_kinds, cells_decide, cells_there)
-
-pub cut_checked : {o : ℕ} {ds ks : List ℕ} {words : ℕ} → IsCut o ds ks → {x : Checked} → checked_of x ≡ check_directory ds ks words → x ≡ checked.Passed → CutChecked o ds ks words
-unfolding check_directory
-cut_checked {o} {ds} {ks} {words} i e g =
-    let n = length ds in
-    let even = check_passed 13 (eqb (n % 2) 0) n _ (reply_is checked_of e g) in
+store_checked : (s : Store) → check_store s ≡ ok tt → StoreChecked s
+unfolding check_store check_counted check_counts check_directory is_canonical
+store_checked s e =
+    let c = seq_passed (check_counts s) _ e in
+    let d = seq_passed (check_directory (counted s).directory (counted s).kinds (length (counted s).words)) _ c.1.1 in
+    let pairs = check_passed 13 (leb (2 * s.objects) (length s.directory)) s.objects _ c.1.0 in
+    let kinds = check_passed 13 (leb s.objects (length s.kinds)) s.objects _ pairs.1 in
+    let bytes = check_passed 13 (leb s.blob_bytes (length s.blob)) s.objects _ kinds.1 in
+    let words = check_is 13 (leb s.used_words (length s.words)) s.objects bytes.1 in
+    let inside : 2 * s.objects ≤ length s.directory = leb-true (2 * s.objects) (length s.directory) pairs.0 in
+    let n = length (counted s).directory in
+    let even = check_passed 13 (eqb (n % 2) 0) n _ d.1.0 in
     let many = check_passed 13 (leb n 699044) n _ even.1 in
-    let kinds = check_passed 13 (eqb (length ks) (n / 2)) n _ many.1 in
-    let half : n / 2 ≡ o = omega (arith, i.pairs) in
+    let canonical = and_is (every is_canonical_payload (cells (counted s))) _ (check_is 33 (is_canonical (counted s)) 0 d.1.1) in
     record {
-      cut = i;
-      few = omega (arith, i.pairs, leb-true n 699044 many.0);
-      cells = record {
-        pairs = i.pairs;
-        inside =
-            λ j h.
-            cell_within ds words j (check_each_passed 13 (is_cell ds words) 0 (n / 2) kinds.1 j (omega arith) (omega arith));
-      };
+      is = e;
+      canonical = same_store_is (counted s) (serialize (stored_arrays (counted s))) canonical.1;
+      few = omega (arith, leb-true n 699044 many.0, length-take (2 * s.objects) s.directory, inside);
+      blob_inside = leb-true s.blob_bytes (length s.blob) bytes.0;
+      directory_inside = inside;
+      kinds_inside = leb-true s.objects (length s.kinds) kinds.0;
+      words_inside = leb-true s.used_words (length s.words) words;
     }
 
-module _ (o : ℕ) (bs ds ks ws : List ℕ) {x : Checked} (e : checked_of x ≡ check_directory ds ks (length ws)) where
-  pub cut_refused : {f : MatError} → x ≡ checked.Failed f → error (failure_of f) ≡ check_counted (store_of o (length bs) (length ws) bs ds ks ws)
-  unfolding check_counted
-  cut_refused g = rw (reply_is checked_of e g)
+pub old_inside : {s : Store} {k : Kind} → StoreChecked s → IdInside s.objects k → {id : ℕ} → k ≡ kind.Replace id → {j : ℕ} → j ≡ id - 1
+    → length_at s.directory j ≤ s.used_words
+old_inside {s} {k} t i {id} e j = rw j (old_within s (stored_arrays (counted s)) t.canonical id (rw e at i))
 
-  module _ (g : x ≡ checked.Passed) where
-    module _ {b : Bool} (m : b ≡ is_canonical (store_of o (length bs) (length ws) bs ds ks ws)) where
-      pub cut_other : not b ≡ true → error (failure_of (NotCanonical 0)) ≡ check_counted (store_of o (length bs) (length ws) bs ds ks ws)
-      unfolding check_counted
-      cut_other h = rw (reply_is checked_of e g, ← m, not_true b h)
+pub array_checked : (a : StringArray) {n : ℕ} → ok n ≡ measured_payload a.dims.now a.text.now a.spans.now → ArrayChecked a n
+array_checked a {n} e =
+    let p = measured_passed a.dims.now a.text.now a.spans.now e in
+    record { is = p.0; long = sym p.1; most = omega (arith, p.1, (array_passed a.dims.now a.text.now a.spans.now p.0).words) }
 
-      pub cut_passes : not b ≡ false → ok tt ≡ check_counted (store_of o (length bs) (length ws) bs ds ks ws)
-      unfolding check_counted
-      cut_passes h = rw (reply_is checked_of e g, ← m, not_false b h)
+-- what is left of the checks once the array is measured
+module _ (s : Store) (k : Kind) (a : StringArray) {u v : Unit {0}} (e : ok u ≡ check_store s) (f : ok v ≡ check_id s.objects k)
+    {n : ℕ} (g : ok n ≡ measured_payload a.dims.now a.text.now a.spans.now) where
+  pub edit_measured : EditMeasured s k a n
+  edit_measured = record { store = store_checked s (sym e); id = id_inside s.objects k (sym f); array = array_checked a g }
 
-pub ruleset cut_outcomes = (cut_refused, cut_checked, cut_other, cut_passes)
+  left : call s (edit_in k a)
+      ≡ (check_object_count (objects_after s.objects k)
+      >> (check_room (lengths_of s) (objects_after s.objects k) (words_with s k n) >> ok (arrays_after (stored_arrays (counted s)) k (array_lent a))))
+  left =
+      let m : EditMeasured s k a n = edit_measured in
+      let c = m.store.canonical in
+      call_is s k a.dims.now a.text.now a.spans.now
+      ∙ rw (← e, ← f, m.array.is, m.array.long, words_of_are s (stored_arrays (counted s)) c k m.id (array_lent a), words_with_are s (stored_arrays (counted s)) c k m.id (array_lent a))
 
--- ---- cutting
+  module _ {c : Counts} (is : c ≡ counts_after s k n) where
+    pub many : 349522 < c.objects → call s (edit_in k a) ≡ error (failure_of (LimitExceeded c.objects))
+    many h = left ∙ rw is (simp (lt-leb (objects_after s.objects k) 349522 (rw is at h)))
 
-module _ (o b u : ℕ) (bs ds ks ws : List ℕ) (c : CountsInside (store_of o b u bs ds ks ws)) where
-  pub is_cut : IsCut o (take (2 * o) ds) (take o ks)
-  is_cut = record { pairs = length-take-le (2 * o) ds c.directory; kind = length-take-le o ks c.kinds }
+    module _ (few : c.objects ≤ 349522) where
+      decided : call s (edit_in k a) ≡ (check_room (lengths_of s) c.objects c.words >> ok (arrays_after (stored_arrays (counted s)) k (array_lent a)))
+      decided = left ∙ rw is (simp (le-leb (objects_after s.objects k) 349522 (rw is at few)))
 
-  pub cut_counted : {r : Result (Unit {0})} → r ≡ check_counted (store_of o (length (take b bs)) (length (take u ws)) (take b bs) (take (2 * o) ds) (take o ks) (take u ws))
-      → r ≡ check_counted (counted (store_of o b u bs ds ks ws))
-  cut_counted r = rw (length-take-le b bs c.blob, length-take-le u ws c.words) at r
+      pub no_room : {q : Failure} → error q ≡ check_room (lengths_of s) c.objects c.words → call s (edit_in k a) ≡ error q
+      no_room h = decided ∙ rw (← h)
 
-  pub blob_cut : b ≡ length (take b bs)
-  blob_cut = sym (length-take-le b bs c.blob)
-
-  pub pairs_cut : 2 * o ≡ length (take (2 * o) ds)
-  pairs_cut = sym (length-take-le (2 * o) ds c.directory)
-
-  pub kinds_cut : o ≡ length (take o ks)
-  kinds_cut = sym (length-take-le o ks c.kinds)
-
-  pub words_cut : u ≡ length (take u ws)
-  words_cut = sym (length-take-le u ws c.words)
-
-pub ruleset cutting = (is_cut, cut_counted, blob_cut, pairs_cut, kinds_cut, words_cut)
-
-module _ (o b u : ℕ) (bs ds ks ws : List ℕ) {x : Checked} (e : checked_of x ≡ check_counts (store_of o b u bs ds ks ws)) where
-  pub store_past : {f : MatError} → x ≡ checked.Failed f → error (failure_of f) ≡ check_store (store_of o b u bs ds ks ws)
-  unfolding check_store
-  store_past g = rw (reply_is checked_of e g)
-
-  module _ (g : x ≡ checked.Passed) {n bytes end : ℕ} (en : n ≡ o) (eb : bytes ≡ b) (eu : end ≡ u) where
-    pub counts_hold : CountsInside (store_of n bytes end bs ds ks ws)
-    unfolding check_counts
-    counts_hold =
-        let q = reply_is checked_of e g in
-        let directory = check_passed 13 (leb (2 * o) (length ds)) o _ q in
-        let kinds = check_passed 13 (leb o (length ks)) o _ directory.1 in
-        let blob = check_passed 13 (leb b (length bs)) o _ kinds.1 in
-        let words = check_is 13 (leb u (length ws)) o blob.1 in
-        rw (en, eb, eu) (record {
-          directory = leb-true (2 * o) (length ds) directory.0;
-          kinds = leb-true o (length ks) kinds.0;
-          blob = leb-true b (length bs) blob.0;
-          words = leb-true u (length ws) words;
-        })
-
-    pub store_counted : {r : Result (Unit {0})} → r ≡ check_counted (counted (store_of n bytes end bs ds ks ws)) → r ≡ check_store (store_of o b u bs ds ks ws)
-    unfolding check_store
-    store_counted r = rw (reply_is checked_of e g) (rw (en, eb, eu) at r)
-
-pub ruleset store_outcomes = (store_past, counts_hold, store_counted)
-
--- ---- 34
-
-module _ (n total b d k w : ℕ) (few : n ≤ 349522) where
-  abbrev room : Lengths
-  room = lengths b d k w
-
-  abbrev short : ℕ → Result (Unit {0})
-  short need = error (failure_of (OutputTooShort need))
-
-  pub short_blob : b < 144 + 48 * n → short (144 + 48 * n) ≡ check_room room n total
-  unfolding check_room
-  short_blob h =
-      let place : min (144 + 48 * n) (2 ^ 64 - 1) ≡ 144 + 48 * n = omega arith in
-      simp (lt-leb, place)
-
-  module _ (h : 144 + 48 * n ≤ b) where
-    pub short_directory : d < 2 * n → short (2 * n) ≡ check_room room n total
-    unfolding check_room
-    short_directory i =
-        let place : min (2 * n) (2 ^ 64 - 1) ≡ 2 * n = omega arith in
-        simp (le-leb, lt-leb, place)
-
-    module _ (i : 2 * n ≤ d) where
-      pub short_kinds : k < n → short n ≡ check_room room n total
+      pub passes : {w : Unit {0}} → ok w ≡ check_room (lengths_of s) c.objects c.words → Passes s k a n c
       unfolding check_room
-      short_kinds j =
-          let place : min n (2 ^ 64 - 1) ≡ n = omega arith in
-          simp (le-leb, lt-leb, place)
+      passes h =
+          let bytes : c.blob_bytes ≡ 144 + 48 * c.objects = ap (λ (d : Counts). d.blob_bytes) is ∙ ap (λ (d : Counts). 144 + 48 * d.objects) (sym is) in
+          let blob = check_passed 34 (leb (144 + 48 * c.objects) (length s.blob)) _ _ (sym h) in
+          let pairs = check_passed 34 (leb (2 * c.objects) (length s.directory)) _ _ blob.1 in
+          let kinds = check_passed 34 (leb c.objects (length s.kinds)) _ _ pairs.1 in
+          let words = check_is 34 (leb c.words (length s.words)) _ kinds.1 in
+          record {
+            measured = edit_measured;
+            counts = is;
+            answer = decided ∙ rw (← h);
+            few = few;
+            blob_fits = omega (arith, bytes, leb-true (144 + 48 * c.objects) (length s.blob) blob.0);
+            directory_fits = leb-true (2 * c.objects) (length s.directory) pairs.0;
+            kinds_fits = leb-true c.objects (length s.kinds) kinds.0;
+            words_fit = leb-true c.words (length s.words) words;
+          }
 
-      module _ (j : n ≤ k) where
-        pub short_words : total < 2 ^ 64 → w < total → short total ≡ check_room room n total
-        unfolding check_room
-        short_words t l =
-            let place : min total (2 ^ 64 - 1) ≡ total = omega arith in
-            simp (le-leb, lt-leb, place)
-
-        pub room_enough : total ≤ w → ok tt ≡ check_room room n total
-        unfolding check_room
-        room_enough l = simp le-leb
-
-pub ruleset rooms = (short_blob, short_directory, short_kinds, short_words, room_enough)
+pub refused : (s : Store) (k : Kind) (a : StringArray) (r : Reply Accepted MatError) (e : MatError) → IsErr r × IsErrAnd r (λ y. y ≡ e)
+    → call s (edit_in k a) ≡ error (failure_of e) → Decides s k a r
+refused s k a r e p q = subst (Decides s k a) (sym (err_is r e p)) q

@@ -1,40 +1,58 @@
 -- Demand 3: for every list of edits on an empty store, the replies and the store are the model's, and each id reads back its own array.
 -- Assumes nothing.
-use Prim.Native.Nat.{ℕ, ◌+◌, ◌-◌, ◌*◌, ◌≤◌, ◌<◌}
+use Prim.Native.Nat.{ℕ, ◌-◌, ◌*◌, ◌≤◌}
 use mathlib.Core.Path.{◌≡◌, refl, sym, ap, ap₂, subst, ◌∙◌}
-use mathlib.Core.Bool.{Bool, true, false}
 use mathlib.Core.List.{List, [], ◌∷◌, ◌++◌, append_assoc}
 use native.Mathlib.Omega.{arith}
 use borrow.Author.Tests.{le-leb, leb-true}
 use lib.Dec.{leb}
-use lib.ListN.{length, get_or, drop, set, replicate, length-append, length-take, length-replicate, length-set}
+use lib.ListN.{length, get_or, drop, set, replicate, length-append, length-take, length-replicate}
 use lib.Seq.{take_at}
 use Rattle.text.specs.Result.{Result, ok, error, check, need_place, ◌>>◌, ◌>>=◌}
 use Rattle.text.proofs.BufferLaws.{length_over}
 use Rattle.text.proofs.ResultLaws.{check_is, check_passed, seq_passed, bind_passed}
-use Rattle.writer.specs.Array.{Array, no_array, Accepted, payload, array_of, payloads, payload_spans}
+use Rattle.writer.specs.Array.{Array, no_array, Accepted, array_of, payloads, payload_spans}
 use Rattle.writer.specs.FileWrapper.{file_wrapper}
-use Rattle.writer.specs.Spans.{length_at}
 use Rattle.writer.proofs.FileWrapperLaws.{length_file_wrapper}
 use Rattle.writer.proofs.LayoutLaws.{length_payload_spans}
 use Rattle.reader.proofs.ReadBack.{canonical_directory}
+use Rattle.store.specs.declared.edits.Edit.{Edit as Kind}
+use Rattle.store.specs.declared.edits.Edit.TheVariants as kind
 use Rattle.store.specs.Store.{Store, Lengths, lengths_of, serialize, counted, stored_arrays}
-use Rattle.store.specs.Edits.{check_counts, check_counted, check_store, check_object_count, check_room, check_append, appended, check_replace, words_after, replaced, reply_of, laid, store_after}
+use Rattle.store.specs.Edits.{check_counts, check_counted, check_store, check_room, reply_of, laid, store_after}
 use Rattle.store.specs.Model.{Edit, append, replace, check_lengths, tried, candidate, list_after, model_from, call, execute, ReadsBack, Edited}
-use Rattle.store.proofs.StoreLaws.{AllAccepted, stored_are, serialized_canonical, length_payloads_last, length_payloads_set, length_payload_nth, span_length, accepted_last, accepted_set, reads_back}
+use Rattle.store.specs.Replies.{edit_of}
+use Rattle.store.specs.Stages.{check_id, objects_after, arrays_after}
+use Rattle.store.proofs.CallLaws.{id_inside, call_is, length_after, words_of, words_of_are}
+use Rattle.store.proofs.StoreLaws.{AllAccepted, stored_are, serialized_canonical, accepted_last, accepted_set, reads_back}
 
 -- ---- results
 
--- after the same check, what follows if it holds
-gate : {A B : Type 0} (q : ℕ) (t : Bool) (p : ℕ) (m : Result A) (f : A → Result B) (k : Result B) → (t ≡ true → (m >>= f) ≡ k)
-    → ((check q t p >> m) >>= f) ≡ (check q t p >> k)
-gate q true p m f k g = g refl
-gate q false p m f k g = refl
+-- after the same checks, and with the same value
+after_check : {A : Type 0} (m : Result (Unit {0})) {p q : Result A} → (m ≡ ok tt → p ≡ q) → (m >> p) ≡ (m >> q)
+after_check (ok t) h = h refl
+after_check (error e) h = refl
 
-bind_same : {A B C : Type 0} (m : Result A) (f : A → Result B) (g : B → Result C) (h : A → Result C) → ((a : A) → (f a >>= g) ≡ h a)
-    → ((m >>= f) >>= g) ≡ (m >>= h)
-bind_same (ok a) f g h e = e a
-bind_same (error n) f g h e = refl
+after_value : {A B : Type 0} (m : Result A) {f g : A → Result B} → ((a : A) → f a ≡ g a) → (m >>= f) ≡ (m >>= g)
+after_value (ok a) h = h a
+after_value (error e) h = refl
+
+seq_assoc : {A : Type 0} (m n : Result (Unit {0})) (k : Result A) → (m >> (n >> k)) ≡ ((m >> n) >> k)
+seq_assoc (ok t) n k = refl
+seq_assoc (error e) n k = refl
+
+-- ---- the model's candidate by the kind of an edit
+
+candidate_is : (l : Lengths) (xs : List Array) (k : Kind) (dims text spans : List ℕ)
+    → candidate l xs (edit_of k dims text spans) ≡ (check_id (length xs) k >> tried l dims text spans (arrays_after xs k))
+unfolding candidate
+candidate_is l xs kind.Append dims text spans = refl
+candidate_is l xs (kind.Replace id) dims text spans =
+    seq_assoc (check 8 (leb 1 id) id) (check 8 (leb id (length xs)) id) (tried l dims text spans (λ a. set xs (id - 1) a))
+
+by_kind : (P : Edit → Type 0) → ((k : Kind) (dims text spans : List ℕ) → P (edit_of k dims text spans)) → (e : Edit) → P e
+by_kind P f (append dims text spans) = f kind.Append dims text spans
+by_kind P f (replace id dims text spans) = f (kind.Replace id) dims text spans
 
 -- ---- the invariant: the store holds the model's arrays, in buffers of the first lengths
 
@@ -107,58 +125,16 @@ module _ {l : Lengths} {xs : List Array} {s : Store} (k : Holds l xs s) where
   unfolding check_room check_lengths
   same_room ys n w e f = rw (← k.sized, length_file_wrapper, length_payload_spans, length-replicate, e, f)
 
-  -- from the array on
-  same_tried : (n : ℕ) (w : Array → ℕ) (list : Array → List Array) (dims text spans : List ℕ)
-      → ((a : Array) → n ≡ length (list a)) → ((a : Array) → w a ≡ length (payloads (list a)))
-      → ((array_of dims text spans >>= λ a. check_object_count n >> ok a) >>= λ a. check_room (lengths_of s) n (w a) >> ok (list a)) ≡ tried l dims text spans list
+  same_kind : (c : Kind) (dims text spans : List ℕ) → call s (edit_of c dims text spans) ≡ candidate l xs (edit_of c dims text spans)
   unfolding tried
-  same_tried n w list dims text spans e f =
-      bind_same (array_of dims text spans) (λ a. check_object_count n >> ok a) (λ a. check_room (lengths_of s) n (w a) >> ok (list a)) _
-      (λ a.
-      let m : ℕ = length (list a) in
-      rw (e a) (gate 32 (leb m 349522) m (ok a) (λ b. check_room (lengths_of s) m (w b) >> ok (list b)) _ (λ t. rw (same_room (list a) m (w a) refl (f a)))))
-
-  same_append : (dims text spans : List ℕ) → appended s dims text spans ≡ candidate l xs (append dims text spans)
-  unfolding appended check_append candidate
-  same_append dims text spans =
-      rw (store_passes, arrays_are)
-      (same_tried (s.objects + 1) (λ a. s.used_words + length (payload a)) (λ a. xs ++ a ∷ []) dims text spans
-      (λ a. omega (arith, objects_are, length-append xs (a ∷ []))) (λ a. omega (arith, words_are, length_payloads_last xs a)))
-
-  module _ (id : ℕ) (dims text spans : List ℕ) where
-    -- for n objects
-    replace_checks : ℕ → Result Array
-    replace_checks n = do
-      check 8 (leb 1 id) id
-      check 8 (leb id n) id
-      a ← array_of dims text spans
-      check_object_count n
-      ok a
-
-    after_checks : ℕ → Array → Result (List Array)
-    after_checks n a = check_room (lengths_of s) n (words_after s id a) >> ok (set xs (id - 1) a)
-
-    same_checks : (n : ℕ) → n ≡ length xs → (replace_checks n >>= after_checks n) ≡ candidate l xs (replace id dims text spans)
-    unfolding replace_checks after_checks candidate
-    same_checks n e =
-        rw (← e)
-        (gate 8 (leb 1 id) id _ (after_checks n) _ (λ t. gate 8 (leb id n) id _ (after_checks n) _ (λ u.
-        let least : 1 ≤ id = leb-true 1 id t in
-        let most : id ≤ n = leb-true id n u in
-        let h : id - 1 < length xs = omega arith in
-        let d : length_at (counted s).directory (id - 1) ≡ length (payload (get_or xs (id - 1) no_array)) =
-        ap (λ (c : Store). length_at c.directory (id - 1)) k.is ∙ span_length 0 xs (id - 1) h in
-        same_tried n (words_after s id) (λ a. set xs (id - 1) a) dims text spans (λ a. e ∙ sym (length-set xs (id - 1) a))
-        (λ a. omega (arith, words_are, d, length_payloads_set xs (id - 1) a h, length_payload_nth xs (id - 1) h)))))
-
-    same_replace : replaced s id dims text spans ≡ candidate l xs (replace id dims text spans)
-    unfolding replaced check_replace replace_checks after_checks
-    same_replace = rw (store_passes, arrays_are) (same_checks s.objects objects_are)
+  same_kind c dims text spans =
+      call_is s c dims text spans ∙ rw (store_passes, candidate_is, ← objects_are)
+      (after_check (check_id s.objects c) (λ i. after_value (array_of dims text spans) (λ a.
+      let n : objects_after s.objects c ≡ length (arrays_after xs c a) = rw objects_are (sym (length_after xs c a)) in
+      rw (arrays_are, same_room (arrays_after xs c a) (objects_after s.objects c) (words_of s c a) n (words_of_are s xs k.is c (id_inside s.objects c i) a), n))))
 
   pub same_call : (e : Edit) → call s e ≡ candidate l xs e
-  unfolding call
-  same_call (append dims text spans) = same_append dims text spans
-  same_call (replace id dims text spans) = same_replace id dims text spans
+  same_call = by_kind (λ e. call s e ≡ candidate l xs e) same_kind
 
   -- ---- the serialization of a list that fits, laid over the buffers, is held
 
@@ -227,13 +203,15 @@ tried_fits l dims text spans list {ys} g e =
       words = leb-true (length (payloads xs)) l.words (check_is 34 (leb (length (payloads xs)) l.words) (need_place (length (payloads xs))) c.1);
     })
 
+accepted_after : (xs : List Array) (k : Kind) {a : Array} → AllAccepted xs → Accepted a → AllAccepted (arrays_after xs k a)
+accepted_after xs kind.Append f w = accepted_last xs f w
+accepted_after xs (kind.Replace id) f w = accepted_set xs (id - 1) f w
+
 candidate_fits : (l : Lengths) (xs : List Array) (e : Edit) {ys : List Array} → AllAccepted xs → candidate l xs e ≡ ok ys → Fits l ys
-unfolding candidate
-candidate_fits l xs (append dims text spans) f e = tried_fits l dims text spans (λ a. xs ++ a ∷ []) (λ a w. accepted_last xs f w) e
-candidate_fits l xs (replace id dims text spans) f e =
-    let p = check_passed 8 (leb 1 id) id _ e in
-    let q = check_passed 8 (leb id (length xs)) id _ p.1 in
-    tried_fits l dims text spans (λ a. set xs (id - 1) a) (λ a w. accepted_set xs (id - 1) f w) q.1
+candidate_fits l xs e {ys} f =
+    by_kind (λ d. candidate l xs d ≡ ok ys → Fits l ys)
+    (λ k dims text spans q. tried_fits l dims text spans (arrays_after xs k) (λ a w. accepted_after xs k f w)
+    (seq_passed (check_id (length xs) k) _ (sym (candidate_is l xs k dims text spans) ∙ q)).1.1) e
 
 -- ---- one call, and a list of them
 

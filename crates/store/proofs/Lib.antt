@@ -1,12 +1,12 @@
+pub mod ReplyLaws
 pub mod StoreLaws
 pub mod CanonicalLaws
-pub mod AppendLaws
+pub mod CallLaws
 pub mod CheckLaws
-pub mod StageLaws
+pub mod AppendLaws
 pub mod ReplaceLaws
 pub mod EditLaws
 pub mod EmptyBlobLaws
 pub mod Examples
-pub mod MoveLaws
 pub mod SpliceLaws
 pub mod ShiftLaws

@@ -1,18 +1,46 @@
-// The edits of a store whose counts are lent.
-ghost use Rattle.store.specs.Store.{store_of};
+// The counts of a store, and the edits of a store whose counts are lent, which is the form that document 01 names.
+ghost use Rattle.std.specs.Prelude.{◌≡◌, ◌≤◌};
 ghost use Rattle.store.specs.Edits.{appended, replaced};
-ghost use Rattle.store.specs.Replies.{EditsCounts};
+ghost use Rattle.store.specs.Replies.{store_with, Edits};
+ghost use Rattle.store.specs.Stages.{counts_of};
 
 use crate::append::append_at;
-use crate::edits::EditReply;
+use crate::array::StringArray;
 use crate::replace::replace_at;
+use text::error::MatError;
 
-// The counts of a store.
-#[derive(Clone, Copy)]
+// The bytes of a metadata blob for no objects, and those of one object more.
+pub const BLOB_BASE: u64 = 144;
+
+pub const BLOB_STEP: u64 = 48;
+
+// How many objects, bytes of the blob and words a store has.
+#[derive(Clone, Copy, Debug, PartialEq, Eq)]
 pub struct Counts {
     pub objects: u64,
     pub blob_bytes: u64,
     pub words: u64,
+}
+
+impl Counts {
+    // Those of a store of no objects.
+    pub const EMPTY: Counts = Counts {
+        objects: 0,
+        blob_bytes: BLOB_BASE,
+        words: 0,
+    };
+
+    // Those of a store of so many objects and words.
+    pub(crate) fn of(objects: u64, words: u64) -> Counts
+        requires { objects ≤ 349523 }
+        ensures { result ≡ counts_of objects words }
+    {
+        Counts {
+            objects,
+            blob_bytes: BLOB_BASE + BLOB_STEP * objects,
+            words,
+        }
+    }
 }
 
 // Adds an array after the last one of a store.
@@ -22,28 +50,15 @@ pub fn append(
     directory: &mut [u64],
     kinds: &mut [u8],
     words: &mut [u64],
-    dims: &[u64],
-    text: &[u8],
-    spans: &[u64],
-) -> EditReply
-    ensures { EditsCounts (store_of counts.old.objects counts.old.blob_bytes counts.old.words blob.old directory.old kinds.old words.old) (appended (store_of counts.old.objects counts.old.blob_bytes counts.old.words blob.old directory.old kinds.old words.old) dims.now text.now spans.now) result counts.new blob.new directory.new kinds.new words.new }
+    array: StringArray<'_>,
+) -> Result<(), MatError>
+    ensures { let s = store_with counts.old blob.old directory.old kinds.old words.old in
+        let t = store_with counts.new blob.new directory.new kinds.new words.new in
+        let a = array.entry in
+        Edits s (appended s a.dims.now a.text.now a.spans.now) result t }
 {
-    let appended = append_at(
-        counts.objects,
-        counts.blob_bytes,
-        counts.words,
-        blob,
-        directory,
-        kinds,
-        words,
-        dims,
-        text,
-        spans,
-    );
-    counts.objects = appended.objects;
-    counts.blob_bytes = appended.blob_bytes;
-    counts.words = appended.words;
-    appended.reply
+    *counts = append_at(*counts, blob, directory, kinds, words, array)?;
+    Ok(())
 }
 
 // Puts an array in place of that of an object.
@@ -54,27 +69,13 @@ pub fn replace(
     kinds: &[u8],
     words: &mut [u64],
     object_id: u64,
-    dims: &[u64],
-    text: &[u8],
-    spans: &[u64],
-) -> EditReply
-    ensures { EditsCounts (store_of counts.old.objects counts.old.blob_bytes counts.old.words blob.now directory.old kinds.now words.old) (replaced (store_of counts.old.objects counts.old.blob_bytes counts.old.words blob.now directory.old kinds.now words.old) object_id dims.now text.now spans.now) result counts.new blob.now directory.new kinds.now words.new }
+    array: StringArray<'_>,
+) -> Result<(), MatError>
+    ensures { let s = store_with counts.old blob.now directory.old kinds.now words.old in
+        let t = store_with counts.new blob.now directory.new kinds.now words.new in
+        let a = array.entry in
+        Edits s (replaced s object_id a.dims.now a.text.now a.spans.now) result t }
 {
-    let replaced = replace_at(
-        counts.objects,
-        counts.blob_bytes,
-        counts.words,
-        blob,
-        directory,
-        kinds,
-        words,
-        object_id,
-        dims,
-        text,
-        spans,
-    );
-    counts.objects = replaced.objects;
-    counts.blob_bytes = replaced.blob_bytes;
-    counts.words = replaced.words;
-    replaced.reply
+    *counts = replace_at(*counts, blob, directory, kinds, words, object_id, array)?;
+    Ok(())
 }

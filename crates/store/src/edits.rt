@@ -1,33 +1,37 @@
-// What the edits of a store answer, and what both of them do.
-ghost use Rattle.std.specs.Prelude.{◌≡◌, length};
-ghost use Rattle.text.specs.Buffer.{put};
-ghost use Rattle.writer.specs.Array.{payload};
-ghost use Rattle.writer.specs.Stages.Payload.{array_in};
-ghost use Rattle.store.specs.Stages.{ArrayFits};
+// An edit of a store by its kind.
+ghost use Rattle.std.specs.Result.{result_unwrap_or};
+ghost use Rattle.store.specs.Model.{call};
+ghost use Rattle.store.specs.Replies.{store_with, edit_in, Edits};
 
+use crate::append::append_at;
+use crate::array::StringArray;
+use crate::counts::Counts;
+use crate::replace::replace_at;
 use text::error::MatError;
-use writer::string_object::encode_string_saveobj_payload;
 
-// What an edit answers.
-#[derive(Clone, Copy)]
-pub enum EditReply {
-    Done,
-    Error(MatError),
+// Where an edit puts its array: after the last one of a store, or in place of that of an object.
+#[derive(Clone, Copy, Debug, PartialEq, Eq)]
+pub enum Edit {
+    Append,
+    Replace(u64),
 }
 
-// The counts of a store after an edit, and its answer.
-#[derive(Clone, Copy)]
-pub struct Edited {
-    pub objects: u64,
-    pub blob_bytes: u64,
-    pub words: u64,
-    pub reply: EditReply,
-}
-
-// Writes the payload of an array into words from index start on.
-pub(crate) fn put_array(dims: &[u64], text: &[u8], spans: &[u64], words: &mut [u64], start: usize)
-    requires { ArrayFits dims.now text.now spans.now start (length words.old) }
-    ensures { words.new ≡ put words.old start (payload (array_in dims.now text.now spans.now)) }
+// Makes an edit, and answers the counts after it; a refused one leaves them.
+pub fn edit_at(
+    counts: Counts,
+    blob: &mut [u8],
+    directory: &mut [u64],
+    kinds: &mut [u8],
+    words: &mut [u64],
+    edit: Edit,
+    array: StringArray<'_>,
+) -> Result<Counts, MatError>
+    ensures { let s = store_with counts blob.old directory.old kinds.old words.old in
+        let t = store_with (result_unwrap_or result counts) blob.new directory.new kinds.new words.new in
+        Edits s (call s (edit_in edit array.entry)) result t }
 {
-    encode_string_saveobj_payload(dims, text, spans, &mut words[start..]);
+    match edit {
+        Edit::Append => append_at(counts, blob, directory, kinds, words, array),
+        Edit::Replace(id) => replace_at(counts, blob, directory, kinds, words, id, array),
+    }
 }

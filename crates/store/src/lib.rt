@@ -2,8 +2,9 @@
 #![tactic(auto)]
 
 pub mod append;
+pub mod array;
 mod canonical;
+mod checks;
 pub mod counts;
 pub mod edits;
-mod moves;
 pub mod replace;

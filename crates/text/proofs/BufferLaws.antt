@@ -168,7 +168,7 @@ ends all d₀ d o f =
 
 -- ---- a list written where it fits
 
-module _ (d : List ℕ) (i : ℕ) (w : List ℕ) where
+module _ {A : Type 0} (d : List A) (i : ℕ) (w : List A) where
   pub placed_not : length d < i + length w → Places d i w i d
   unfolding placed placed_end
   placed_not h = record { end = simp (lt-leb (i + length w) (length d) h); buffer = simp (lt-leb (i + length w) (length d) h) }
@@ -176,11 +176,11 @@ module _ (d : List ℕ) (i : ℕ) (w : List ℕ) where
   pub placed_past : length d < i → Places d i w i d
   placed_past h = placed_not (omega arith)
 
-  pub placed_whole : i + length w ≤ length d → {e : ℕ} {d' : List ℕ} → Puts d i w e d' → Places d i w e d'
+  pub placed_whole : i + length w ≤ length d → {e : ℕ} {d' : List A} → Puts d i w e d' → Places d i w e d'
   unfolding placed placed_end
   placed_whole h p = record { end = simp (le-leb (i + length w) (length d) h) p.end; buffer = simp (le-leb (i + length w) (length d) h) p.buffer }
 
-  pub places_fits : i + length w ≤ length d → {e : ℕ} {d' : List ℕ} → Places d i w e d' → Puts d i w e d'
+  pub places_fits : i + length w ≤ length d → {e : ℕ} {d' : List A} → Places d i w e d' → Puts d i w e d'
   unfolding placed placed_end
   places_fits h p = record {
     end = simp (le-leb (i + length w) (length d) h) at p.end;

@@ -1,10 +1,11 @@
 -- ISO 8859-15: no two bytes share a code point, which code points have a byte, and that export and import undo each other.
 -- Assumes nothing.
+use Rattle.std.specs.Option.{unwrap_or}
 use mathlib.Core.Path.{◌≡◌, refl, ◌∙◌, sym, ap, ap₂}
 use mathlib.Core.Bool.{cond}
 use mathlib.Core.List.{List, [], ◌∷◌, ◌++◌, map}
-use mathlib.Core.Option
-use mathlib.Core.Option.{Option, some, none, some-injective}
+use Rattle.std.specs.Prelude.{Option, Some, None, Ok}
+use Rattle.std.proofs.lemmas.Option.{same_Some}
 use Prim.Native.Nat.{ℕ, zero, suc, ◌+◌, ◌≤◌, ◌<◌}
 use native.Mathlib.Omega.{arith}
 use borrow.Author.Tests.{le-leb, eqb-true}
@@ -13,10 +14,9 @@ use lib.ListN.{length, get_or, length-append}
 use Rattle.text.specs.Latin9.{Exception, exceptions, point_in, code_point, byte_from, byte_of, bytes_from, latin9_bytes, export_latin9, latin9_text, import_latin9}
 use Rattle.text.specs.Stages.Latin9.{IsTable}
 use Rattle.text.specs.Result.{ok, or_error, map_result, check_output, ◌>>◌, ◌>>=◌}
-use Rattle.text.specs.Replies.{length_reply_of}
+use Rattle.text.specs.Replies.{outcome}
 use Rattle.text.specs.Unicode.{Below, utf8, utf8s}
 use Rattle.text.specs.Utf8.{scalars8}
-use Rattle.text.specs.declared.reply.LengthReply.TheVariants.{Length}
 use Rattle.text.proofs.AsciiLaws.{below_more}
 use Rattle.text.proofs.ByteLaws.{size_2, size_3, size_4}
 use Rattle.text.proofs.ResultLaws.{same_value, seq_passed, bind_passed, or_error_passed}
@@ -41,20 +41,20 @@ table_is points e = record { size = ap length e; point = λ b h. ap (λ (l : Lis
 
 -- ---- a byte leads to its code point and back, by one test over the 256
 
-back_number : (b : ℕ) → b < 256 → Option.get_or (byte_of (code_point b)) 256 ≡ b
+back_number : (b : ℕ) → b < 256 → unwrap_or (byte_of (code_point b)) 256 ≡ b
 unfolding byte_of byte_from code_point point_in exceptions
-back_number b h = agree (λ k. Option.get_or (byte_of (code_point k)) 256) (λ k. k) 256 tt b h
+back_number b h = agree (λ k. unwrap_or (byte_of (code_point k)) 256) (λ k. k) 256 tt b h
 
-some_of : (m : Option ℕ) (d b : ℕ) → Option.get_or m d ≡ b → b < d → m ≡ some b
-some_of (some x) d b e h = ap some e
-some_of none d b e h = absurd (omega arith)
+some_of : (m : Option ℕ) (d b : ℕ) → unwrap_or m d ≡ b → b < d → m ≡ Some b
+some_of (Some x) d b e h = ap Some e
+some_of None d b e h = absurd (omega arith)
 
-pub byte_back : (b : ℕ) → b < 256 → byte_of (code_point b) ≡ some b
+pub byte_back : (b : ℕ) → b < 256 → byte_of (code_point b) ≡ Some b
 byte_back b h = some_of (byte_of (code_point b)) 256 b (back_number b h) h
 
 -- "No two bytes share a code point."
 pub distinct : (a b : ℕ) → a < 256 → b < 256 → code_point a ≡ code_point b → a ≡ b
-distinct a b h k e = some-injective a b (sym (byte_back a h) ∙ ap byte_of e ∙ byte_back b k)
+distinct a b h k e = same_Some a b (sym (byte_back a h) ∙ ap byte_of e ∙ byte_back b k)
 
 pub point_top : (b : ℕ) → b < 256 → code_point b < 0x3000
 unfolding code_point point_in exceptions
@@ -66,17 +66,17 @@ ascii_point b h = agree code_point (λ k. k) 128 tt b h
 
 -- ---- a character's byte has its code point
 
-from_is : (n v i : ℕ) {b : ℕ} → byte_from v i n ≡ some b → (b < i + n) × (code_point b ≡ v)
+from_is : (n v i : ℕ) {b : ℕ} → byte_from v i n ≡ Some b → (b < i + n) × (code_point b ≡ v)
 unfolding byte_from
 from_is zero v i e = not_some e
 from_is (suc n) v i {b} e =
     either (eqb (code_point i) v)
-    (λ t. let z : i ≡ b = some-injective i b (simp t at e) in
+    (λ t. let z : i ≡ b = same_Some i b (simp t at e) in
     (omega arith, ap code_point (sym z) ∙ eqb-true (code_point i) v t))
     (λ t. let r = from_is n v (suc i) (simp t at e) in
     (omega (arith, r.0), r.1))
 
-pub byte_is : {v b : ℕ} → byte_of v ≡ some b → (b < 256) × (code_point b ≡ v)
+pub byte_is : {v b : ℕ} → byte_of v ≡ Some b → (b < 256) × (code_point b ≡ v)
 unfolding byte_of
 byte_is {v} e = from_is 256 v 0 e
 
@@ -94,26 +94,26 @@ own_point (x ∷ es) b v n e =
     either (eqb b x.byte) (λ t. absurd (n.0 (sym (simp t at e)))) (λ t. own_point es b v n.1 (simp t at e))
 
 -- a code point that is not listed has its own byte or none
-unlisted_none : (v : ℕ) → Unlisted v exceptions → (v < 256 → code_point v ≡ v → ⊥) → byte_of v ≡ none
+unlisted_none : (v : ℕ) → Unlisted v exceptions → (v < 256 → code_point v ≡ v → ⊥) → byte_of v ≡ None
 unfolding code_point
 unlisted_none v u n = by (byte_of v) refl
   where
-    by : (m : Option ℕ) → byte_of v ≡ m → m ≡ none
-    by none e = refl
-    by (some b) e =
+    by : (m : Option ℕ) → byte_of v ≡ m → m ≡ None
+    by None e = refl
+    by (Some b) e =
         let p = byte_is e in
         let z : b ≡ v = own_point exceptions b v u p.1 in
         absurd (n (omega (arith, p.0)) (rw z at p.1))
 
-pub high_none : (v : ℕ) → 256 ≤ v → Unlisted v exceptions → none ≡ byte_of v
+pub high_none : (v : ℕ) → 256 ≤ v → Unlisted v exceptions → None ≡ byte_of v
 high_none v h u = sym (unlisted_none v u (λ l _. omega arith))
 
-pub far_none : (v : ℕ) → 0x3000 ≤ v → none ≡ byte_of v
+pub far_none : (v : ℕ) → 0x3000 ≤ v → None ≡ byte_of v
 far_none v h = by (byte_of v) refl
   where
-    by : (m : Option ℕ) → byte_of v ≡ m → none ≡ m
-    by none e = refl
-    by (some b) e = let p = byte_is e in absurd (omega (arith, p.1, point_top b p.0))
+    by : (m : Option ℕ) → byte_of v ≡ m → None ≡ m
+    by None e = refl
+    by (Some b) e = let p = byte_is e in absurd (omega (arith, p.1, point_top b p.0))
 
 unlisted_low : (v : ℕ) → v < 256 → Unlisted v exceptions
 unfolding exceptions
@@ -121,11 +121,11 @@ unlisted_low v h =
     ((λ e. omega arith), ((λ e. omega arith), ((λ e. omega arith), ((λ e. omega arith), ((λ e. omega arith), ((λ e. omega arith), ((λ e. omega arith), ((λ e. omega arith), tt))))))))
 
 -- a byte's number that is not its code point is nobody's
-pub gave_way : (v : ℕ) → v < 256 → (code_point v ≡ v → ⊥) → byte_of v ≡ none
+pub gave_way : (v : ℕ) → v < 256 → (code_point v ≡ v → ⊥) → byte_of v ≡ None
 gave_way v h n = unlisted_none v (unlisted_low v h) (λ _ e. n e)
 
 -- the eight that gave way: A4, A6, A8, B4, B8, BC, BD, BE
-pub eight_gave_way : map byte_of (0xA4 ∷ 0xA6 ∷ 0xA8 ∷ 0xB4 ∷ 0xB8 ∷ 0xBC ∷ 0xBD ∷ 0xBE ∷ []) ≡ none ∷ none ∷ none ∷ none ∷ none ∷ none ∷ none ∷ none ∷ []
+pub eight_gave_way : map byte_of (0xA4 ∷ 0xA6 ∷ 0xA8 ∷ 0xB4 ∷ 0xB8 ∷ 0xBC ∷ 0xBD ∷ 0xBE ∷ []) ≡ None ∷ None ∷ None ∷ None ∷ None ∷ None ∷ None ∷ None ∷ []
 unfolding byte_of byte_from code_point point_in exceptions
 eight_gave_way = refl
 
@@ -224,6 +224,6 @@ module _ (bs : List ℕ) {high : ℕ} (p : Below (high + 1) bs) (h : high < 0x80
   pub ascii_import : length bs + 0 ≡ length (latin9_text bs)
   ascii_import = omega (arith, ap length (ascii_text bs below))
 
-  pub ascii_export : length_reply_of (Length (length bs)) ≡ map_result length (latin9_bytes bs)
+  pub ascii_export : outcome (Ok (length bs)) ≡ map_result length (latin9_bytes bs)
   ascii_export =
       sym (ap (map_result length) (ap latin9_bytes (sym (ascii_text bs below)) ∙ imported_bytes bs (below_more (high + 1) 256 bs (omega arith) p)))

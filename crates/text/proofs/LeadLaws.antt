@@ -12,7 +12,7 @@ use Rattle.text.specs.declared.utf8.Step.TheVariants.{Scalar}
 use Rattle.text.specs.Unicode.{utf8}
 use Rattle.text.specs.Utf8.{Row, table, find, sequence_length, second_range, has_in, step_at}
 use Rattle.text.proofs.ScalarLaws.{IsScalar, gap_below, gap_above, utf8_1, utf8_2, utf8_3, utf8_4}
-use Rattle.text.proofs.StepLaws.{one, two, three, four}
+use Rattle.text.proofs.StepLaws.{one, two, three, four, value_2, value_3, value_4}
 use Rattle.text.proofs.TestLaws.{and_is, cond_both, either, equal_or, agree}
 
 -- ---- Table 3-7 by the ranges of the first byte
@@ -146,7 +146,7 @@ module _ (s : List ℕ) (at a : ℕ) (ea : get_or s at 0 ≡ a) where
     pub step_2 : 194 ≤ a → a < 224 → step_at s at ≡ Scalar (a % 32 * 64 + b % 64) (at + 2)
     step_2 l t =
         let n : sequence_length (get_or s at 0) ≡ 2 = rw ea (length_by_lem a (omega arith) ∙ simp (le-ltb a 128 (omega arith), le-ltb a 194 l, lt-ltb a 224 t)) in
-        rw (← ea, ← eb) (sym (two s at 2 (omega arith) (sym n) (λ e. omega arith) (λ e. omega arith) (second_range (get_or s at 0)) refl true (sym has_second_lem) refl refl))
+        rw (← ea, ← eb) (sym (two s at 2 (omega arith) (sym n) (λ e. omega arith) (λ e. omega arith) (second_range (get_or s at 0)) refl true (sym has_second_lem) refl refl (sym (value_2 s at))))
 
     module _ (c : ℕ) (ec : get_or s (at + 2) 0 ≡ c) (lc : 128 ≤ c) (uc : c ≤ 191) (h2 : at + 2 < length s) where
       has_third : has_in s (at + 2) 0x80 0xBF ≡ true
@@ -156,14 +156,14 @@ module _ (s : List ℕ) (at a : ℕ) (ea : get_or s at 0 ≡ a) where
       step_3 l t =
           let n : sequence_length (get_or s at 0) ≡ 3 = rw ea (length_by_lem a (omega arith) ∙ simp (le-ltb a 128 (omega arith), le-ltb a 194 (omega arith), le-ltb a 224 l, lt-ltb a 240 t)) in
           rw (← ea, ← eb, ← ec)
-          (sym (three s at 3 (omega arith) (sym n) (λ e. omega arith) (λ e. omega arith) (second_range (get_or s at 0)) refl true (sym has_second_lem) refl (λ e. omega arith) true (sym has_third) refl refl))
+          (sym (three s at 3 (omega arith) (sym n) (λ e. omega arith) (λ e. omega arith) (second_range (get_or s at 0)) refl true (sym has_second_lem) refl (λ e. omega arith) true (sym has_third) refl refl (sym (value_3 s at))))
 
       pub step_4 : (d : ℕ) → get_or s (at + 3) 0 ≡ d → 128 ≤ d → d ≤ 191 → at + 3 < length s → 240 ≤ a
           → step_at s at ≡ Scalar (a % 8 * 262144 + b % 64 * 4096 + c % 64 * 64 + d % 64) (at + 4)
       step_4 d ed ld ud h3 l =
           let n : sequence_length (get_or s at 0) ≡ 4 = rw ea (length_by_lem a (omega arith) ∙ simp (le-ltb a 128 (omega arith), le-ltb a 194 (omega arith), le-ltb a 224 (omega arith), le-ltb a 240 l, lt-ltb a 245 top)) in
           rw (← ea, ← eb, ← ec, ← ed)
-          (sym (four s at 4 (omega arith) (sym n) (λ e. omega arith) (λ e. omega arith) (second_range (get_or s at 0)) refl true (sym has_second_lem) refl (λ e. omega arith) true (sym has_third) refl (λ e. omega arith) true (sym (has_yes s (at + 3) 0x80 0xBF h3 (rw ed ld) (rw ed ud))) refl))
+          (sym (four s at 4 (omega arith) (sym n) (λ e. omega arith) (λ e. omega arith) (second_range (get_or s at 0)) refl true (sym has_second_lem) refl (λ e. omega arith) true (sym has_third) refl (λ e. omega arith) true (sym (has_yes s (at + 3) 0x80 0xBF h3 (rw ed ld) (rw ed ud))) refl (sym (value_4 s at))))
 
 -- the same as the code has it
 pub ascii : (s : List ℕ) (at : ℕ) → at < length s → get_or s at 0 < 128 → Scalar (get_or s at 0) (at + 1) ≡ step_at s at

@@ -3,7 +3,8 @@
 use mathlib.Core.Path.{◌≡◌, refl, sym, ap, ◌∙◌}
 use mathlib.Core.Bool.{Bool, true, false, cond}
 use mathlib.Core.List.{List, [], ◌∷◌}
-use mathlib.Core.Option.{some, none, map}
+use Rattle.std.specs.Prelude.{Some, None}
+use Rattle.std.specs.Option.{option_map}
 use Prim.Native.Nat.{ℕ, zero, suc, ◌+◌, ◌-◌, ◌≤◌, ◌<◌, max}
 use native.Mathlib.Omega.{arith}
 use borrow.Author.Tests.{le-ltb, ltb-true, ltb-false, leb-true}
@@ -137,15 +138,15 @@ module _ (s : List ℕ) (i : ℕ) where
 
   -- the scalar values from i on
 
-  pub scalars_end : length s ≤ i → scalars_of (parts_from s i) ≡ some []
+  pub scalars_end : length s ≤ i → scalars_of (parts_from s i) ≡ Some []
   unfolding scalars_of
   scalars_end h = rw (parts_end h)
 
-  pub scalars_scalar : {v next : ℕ} → step_at s i ≡ Scalar v next → scalars_of (parts_from s i) ≡ map (λ vs. v ∷ vs) (scalars_of (parts_from s next))
+  pub scalars_scalar : {v next : ℕ} → step_at s i ≡ Scalar v next → scalars_of (parts_from s i) ≡ option_map (λ vs. v ∷ vs) (scalars_of (parts_from s next))
   unfolding scalars_of
   scalars_scalar e = rw (parts_scalar e)
 
-  pub scalars_ill_formed : {next : ℕ} → step_at s i ≡ IllFormed next → scalars_of (parts_from s i) ≡ none
+  pub scalars_ill_formed : {next : ℕ} → step_at s i ≡ IllFormed next → scalars_of (parts_from s i) ≡ None
   unfolding scalars_of
   scalars_ill_formed e = rw (parts_ill_formed e)
 

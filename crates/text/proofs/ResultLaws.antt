@@ -2,7 +2,7 @@
 use Prim.Native.Nat.{ℕ, zero, suc, ◌+◌, ◌-◌, ◌≤◌, ◌<◌}
 use mathlib.Core.Path.{◌≡◌, refl, sym, ap, ◌∙◌}
 use mathlib.Core.Bool.{Bool, true, false}
-use mathlib.Core.Option.{Option, some, none}
+use Rattle.std.specs.Prelude.{Option, Some, None}
 use native.Mathlib.Numerals.{add-one}
 use native.Mathlib.Omega.{arith}
 use Rattle.text.specs.Result.{Result, ok, error, or_error, check, check_each, check_count, fold_count, fold_range, ◌>>◌, ◌>>=◌}
@@ -35,9 +35,9 @@ bind_passed (error n) f {b} e =
     let z : ◌≡◌ {A = ℕ} 0 1 = cc in
     absurd (omega arith)
 
-pub or_error_passed : {A : Type 0} (f : Failure) (m : Option A) {a : A} → or_error f m ≡ ok a → m ≡ some a
-or_error_passed f (some x) {a} e = ap some (same_value e)
-or_error_passed f none e =
+pub or_error_passed : {A : Type 0} (f : Failure) (m : Option A) {a : A} → or_error f m ≡ ok a → m ≡ Some a
+or_error_passed f (Some x) {a} e = ap Some (same_value e)
+or_error_passed f None e =
     let z : ◌≡◌ {A = ℕ} 0 1 = cc in
     absurd (omega arith)
 

@@ -3,7 +3,7 @@
 use mathlib.Core.Path.{◌≡◌, refl, ◌∙◌, sym, ap}
 use mathlib.Core.Bool.{true, false, ◌&&◌, and_assoc}
 use mathlib.Core.List.{List, [], ◌∷◌, ◌++◌}
-use mathlib.Core.Option.{some}
+use Rattle.std.specs.Prelude.{Some}
 use Prim.Native.Nat.{ℕ}
 use native.Mathlib.Omega.{arith}
 use borrow.Author.Tests.{eq-eqb, ne_eqb, eqb-true}
@@ -58,12 +58,12 @@ replaced_shows (sequence v ∷ ps) n w = replaced_shows ps n w.1
 replaced_shows (ill_formed i ∷ ps) n w = w.0 refl
 
 -- bytes, well-formed or not, have a well-formed text without U+FFFD for their repaired text exactly where they are that text
-pub same_lossy : (s t : List ℕ) {vs : List ℕ} → scalars8 t ≡ some vs → Without 0xFFFD vs → same (lossy s) t ≡ same s t
+pub same_lossy : (s t : List ℕ) {vs : List ℕ} → scalars8 t ≡ Some vs → Without 0xFFFD vs → same (lossy s) t ≡ same s t
 same_lossy s t {vs} e w =
     equal_or (replaced_in (parts_from s 0)) 0
     (λ z. ap (λ (x : List ℕ). same x t) (lossy_same s (none_replaced s z)))
     (λ n. same_not (lossy s) t
-    (λ k. let z : some vs ≡ some (repaired (parts_from s 0)) = sym e ∙ ap scalars8 (sym k) ∙ lossy_well_formed s in
+    (λ k. let z : Some vs ≡ Some (repaired (parts_from s 0)) = sym e ∙ ap scalars8 (sym k) ∙ lossy_well_formed s in
     let y : vs ≡ repaired (parts_from s 0) = cc in
     replaced_shows (parts_from s 0) n (rw y at w))
     ∙ sym (same_not s t (λ k. not_some (sym (part_replaced s n) ∙ ap scalars8 k ∙ e))))

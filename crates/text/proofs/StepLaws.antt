@@ -75,9 +75,9 @@ module _ (s : List ℕ) (at n : ℕ) (here : at < length s) (len : n ≡ sequenc
         simp (lt-ltb _ _ here, sym len, lt-leb n 1 (omega arith), second ∙ not-true r t, lt-ltb 0 n (omega arith), ne_eqb 1 n (λ e. n1 (sym e)))
 
     module _ (y : not r ≡ false) where
-      pub two : n ≡ 2 → Scalar (get_or s at 0 % 32 * 64 + get_or s (at + 1) 0 % 64) (at + 2) ≡ step_at s at
-      unfolding step_at whole_at next_at matched value_at
-      two e = simp (lt-ltb _ _ here, sym len ∙ e, second ∙ not-false r y)
+      pub two : n ≡ 2 → {v : ℕ} → v ≡ value_at s at 2 → Scalar v (at + 2) ≡ step_at s at
+      unfolding step_at whole_at next_at matched
+      two e is = rw is (simp (lt-ltb _ _ here, sym len ∙ e, second ∙ not-false r y))
 
       module _ (n2 : n ≡ 2 → ⊥) (r2 : Bool) (is_has2 : r2 ≡ has_in s (at + 2) 0x80 0xBF) where
         pub no_third : not r2 ≡ true → IllFormed (at + 2) ≡ step_at s at
@@ -86,9 +86,9 @@ module _ (s : List ℕ) (at n : ℕ) (here : at < length s) (len : n ≡ sequenc
             simp (lt-ltb _ _ here, sym len, lt-leb n 1 (omega arith), second ∙ not-false r y, ne_eqb n 2 n2, sym is_has2 ∙ not-true r2 t, lt-ltb 0 n (omega arith), ne_eqb 2 n (λ e. n2 (sym e)))
 
         module _ (y2 : not r2 ≡ false) where
-          pub three : n ≡ 3 → Scalar (get_or s at 0 % 16 * 4096 + get_or s (at + 1) 0 % 64 * 64 + get_or s (at + 2) 0 % 64) (at + 3) ≡ step_at s at
-          unfolding step_at whole_at next_at matched value_at
-          three e = simp (lt-ltb _ _ here, sym len ∙ e, second ∙ not-false r y, sym is_has2 ∙ not-false r2 y2)
+          pub three : n ≡ 3 → {v : ℕ} → v ≡ value_at s at 3 → Scalar v (at + 3) ≡ step_at s at
+          unfolding step_at whole_at next_at matched
+          three e is = rw is (simp (lt-ltb _ _ here, sym len ∙ e, second ∙ not-false r y, sym is_has2 ∙ not-false r2 y2))
 
           module _ (n3 : n ≡ 3 → ⊥) (r3 : Bool) (is_has3 : r3 ≡ has_in s (at + 3) 0x80 0xBF) where
             four_is : n ≡ 4
@@ -99,8 +99,8 @@ module _ (s : List ℕ) (at n : ℕ) (here : at < length s) (len : n ≡ sequenc
             no_fourth t =
                 simp (lt-ltb _ _ here, sym len ∙ four_is, second ∙ not-false r y, sym is_has2 ∙ not-false r2 y2, sym is_has3 ∙ not-true r3 t)
 
-            pub four : not r3 ≡ false
-                → Scalar (get_or s at 0 % 8 * 262144 + get_or s (at + 1) 0 % 64 * 4096 + get_or s (at + 2) 0 % 64 * 64 + get_or s (at + 3) 0 % 64) (at + 4) ≡ step_at s at
-            unfolding step_at whole_at next_at matched value_at
-            four t =
-                simp (lt-ltb _ _ here, sym len ∙ four_is, second ∙ not-false r y, sym is_has2 ∙ not-false r2 y2, sym is_has3 ∙ not-false r3 t)
+            pub four : not r3 ≡ false → {v : ℕ} → v ≡ value_at s at 4 → Scalar v (at + 4) ≡ step_at s at
+            unfolding step_at whole_at next_at matched
+            four t is =
+                rw is
+                (simp (lt-ltb _ _ here, sym len ∙ four_is, second ∙ not-false r y, sym is_has2 ∙ not-false r2 y2, sym is_has3 ∙ not-false r3 t))

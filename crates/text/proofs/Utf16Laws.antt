@@ -3,7 +3,8 @@
 use mathlib.Core.Path.{◌≡◌, refl, ◌∙◌, sym, ap, ap₂}
 use mathlib.Core.Bool.{Bool, true, false, cond}
 use mathlib.Core.List.{List, [], ◌∷◌, ◌++◌, flat_map}
-use mathlib.Core.Option.{some, none, map}
+use Rattle.std.specs.Prelude.{Some, None}
+use Rattle.std.specs.Option.{option_map}
 use Prim.Native.Nat.{ℕ, ◌+◌, ◌-◌, ◌/◌, ◌%◌, ◌≤◌, ◌<◌}
 use native.Mathlib.Omega.{arith}
 use borrow.Author.Tests.{ltb-true, ltb-false}
@@ -32,21 +33,21 @@ gap_low u e = gap_cases u e (λ k. within_under 0xDC00 0xDFFF u (omega arith)) (
 
 -- ---- the equations of `scalars16`
 
-pub one_unit : (u : ℕ) (us : List ℕ) → is_surrogate u ≡ false → scalars16 (u ∷ us) ≡ map (λ vs. u ∷ vs) (scalars16 us)
+pub one_unit : (u : ℕ) (us : List ℕ) → is_surrogate u ≡ false → scalars16 (u ∷ us) ≡ option_map (λ vs. u ∷ vs) (scalars16 us)
 unfolding scalars16
 one_unit u [] g = simp g
 one_unit u (v ∷ us) g = simp (gap_high u g, gap_low u g)
 
-pub two_units : (h l : ℕ) (us : List ℕ) → is_high_surrogate h ≡ true → is_low_surrogate l ≡ true → scalars16 (h ∷ l ∷ us) ≡ map (λ vs. pair_value h l ∷ vs) (scalars16 us)
+pub two_units : (h l : ℕ) (us : List ℕ) → is_high_surrogate h ≡ true → is_low_surrogate l ≡ true → scalars16 (h ∷ l ∷ us) ≡ option_map (λ vs. pair_value h l ∷ vs) (scalars16 us)
 unfolding scalars16
 two_units h l us eh el = simp (eh, el)
 
-pub scalars16_nil : scalars16 [] ≡ some []
+pub scalars16_nil : scalars16 [] ≡ Some []
 unfolding scalars16
 scalars16_nil = refl
 
 -- a surrogate that has no partner
-pub alone : (u : ℕ) → is_surrogate u ≡ true → scalars16 (u ∷ []) ≡ none
+pub alone : (u : ℕ) → is_surrogate u ≡ true → scalars16 (u ∷ []) ≡ None
 unfolding scalars16
 alone u e = simp e
 
@@ -55,17 +56,17 @@ not_high u e h =
     let r = within_is 0xD800 0xDFFF u e in
     within_not 0xD800 0xDBFF u h (λ k. absurd (omega arith)) (λ k. within_yes 0xDC00 0xDFFF u (omega arith) r.1)
 
-pub low_first : (u v : ℕ) (us : List ℕ) → is_surrogate u ≡ true → is_high_surrogate u ≡ false → scalars16 (u ∷ v ∷ us) ≡ none
+pub low_first : (u v : ℕ) (us : List ℕ) → is_surrogate u ≡ true → is_high_surrogate u ≡ false → scalars16 (u ∷ v ∷ us) ≡ None
 unfolding scalars16
 low_first u v us e h = simp (h, not_high u e h)
 
-pub no_low : (u v : ℕ) (us : List ℕ) → is_high_surrogate u ≡ true → is_low_surrogate v ≡ false → scalars16 (u ∷ v ∷ us) ≡ none
+pub no_low : (u v : ℕ) (us : List ℕ) → is_high_surrogate u ≡ true → is_low_surrogate v ≡ false → scalars16 (u ∷ v ∷ us) ≡ None
 unfolding scalars16
 no_low u v us h l = simp (h, l)
 
 -- ---- what was encoded is read back
 
-back_one : (v : ℕ) (us : List ℕ) → IsScalar v → scalars16 (utf16 v ++ us) ≡ map (λ vs. v ∷ vs) (scalars16 us)
+back_one : (v : ℕ) (us : List ℕ) → IsScalar v → scalars16 (utf16 v ++ us) ≡ option_map (λ vs. v ∷ vs) (scalars16 us)
 back_one v us sc =
     either (ltb v 0x10000)
     (λ e. rw (utf16_1 v (ltb-true v 0x10000 e)) (one_unit v us sc.gap))
@@ -77,12 +78,12 @@ back_one v us sc =
     let val : pair_value h l ≡ v = omega arith in
     rw (utf16_2 v k)
     (two_units h l us (within_yes 0xD800 0xDBFF h (omega arith) (omega arith)) (within_yes 0xDC00 0xDFFF l (omega arith) (omega arith))
-    ∙ ap (λ (x : ℕ). map (λ vs. x ∷ vs) (scalars16 us)) val))
+    ∙ ap (λ (x : ℕ). option_map (λ vs. x ∷ vs) (scalars16 us)) val))
 
-pub scalars16_utf16s : (vs : List ℕ) → Scalars vs → scalars16 (utf16s vs) ≡ some vs
+pub scalars16_utf16s : (vs : List ℕ) → Scalars vs → scalars16 (utf16s vs) ≡ Some vs
 unfolding flat_map scalars16
 scalars16_utf16s [] h = refl
-scalars16_utf16s (v ∷ vs) h = back_one v (utf16s vs) h.0 ∙ ap (map (λ vs. v ∷ vs)) (scalars16_utf16s vs h.1)
+scalars16_utf16s (v ∷ vs) h = back_one v (utf16s vs) h.0 ∙ ap (option_map (λ vs. v ∷ vs)) (scalars16_utf16s vs h.1)
 
 -- ---- what is read was encoded
 
@@ -109,7 +110,7 @@ spelled_two h l us vs eh el r =
           (ap₂ (λ (x : ℕ) (t : List ℕ). x ∷ t) (omega arith) (ap₂ (λ (x : ℕ) (t : List ℕ). x ∷ t) (omega arith) r.units));
     }
 
-last_by : (u : ℕ) (vs : List ℕ) (t : Bool) → u < 65536 → is_surrogate u ≡ t → cond t none (some (u ∷ [])) ≡ some vs → Spelled16 (u ∷ []) vs
+last_by : (u : ℕ) (vs : List ℕ) (t : Bool) → u < 65536 → is_surrogate u ≡ t → cond t None (Some (u ∷ [])) ≡ Some vs → Spelled16 (u ∷ []) vs
 unfolding flat_map
 last_by u vs true b g e = not_some e
 last_by u vs false b g e =
@@ -117,9 +118,9 @@ last_by u vs false b g e =
     rw w (spelled_one u [] [] b g (record { scalars = tt; units = refl }))
 
 front_by : (u v : ℕ) (us vs : List ℕ) → u < 65536
-    → ((ws : List ℕ) → scalars16 us ≡ some ws → Spelled16 us ws) → ((ws : List ℕ) → scalars16 (v ∷ us) ≡ some ws → Spelled16 (v ∷ us) ws)
+    → ((ws : List ℕ) → scalars16 us ≡ Some ws → Spelled16 us ws) → ((ws : List ℕ) → scalars16 (v ∷ us) ≡ Some ws → Spelled16 (v ∷ us) ws)
     → (p q r : Bool) → is_high_surrogate u ≡ p → is_low_surrogate v ≡ q → is_low_surrogate u ≡ r
-    → cond p (cond q (map (λ ws. pair_value u v ∷ ws) (scalars16 us)) none) (cond r none (map (λ ws. u ∷ ws) (scalars16 (v ∷ us)))) ≡ some vs
+    → cond p (cond q (option_map (λ ws. pair_value u v ∷ ws) (scalars16 us)) None) (cond r None (option_map (λ ws. u ∷ ws) (scalars16 (v ∷ us)))) ≡ Some vs
     → Spelled16 (u ∷ v ∷ us) vs
 front_by u v us vs b f g true true r ep eq er e =
     let o = map_is (λ ws. pair_value u v ∷ ws) (scalars16 us) e in
@@ -130,7 +131,7 @@ front_by u v us vs b f g false q false ep eq er e =
     let o = map_is (λ ws. u ∷ ws) (scalars16 (v ∷ us)) e in
     rw o.1.1 (spelled_one u (v ∷ us) o.0 b (no_half u ep er) (g o.0 o.1.0))
 
-pub spelled16 : (us : List ℕ) → Below 65536 us → (vs : List ℕ) → scalars16 us ≡ some vs → Spelled16 us vs
+pub spelled16 : (us : List ℕ) → Below 65536 us → (vs : List ℕ) → scalars16 us ≡ Some vs → Spelled16 us vs
 unfolding scalars16 flat_map
 spelled16 [] b vs e = let n : vs ≡ [] = cc in rw n (record { scalars = tt; units = refl })
 spelled16 (u ∷ []) b vs e = last_by u vs (is_surrogate u) b.0 refl e
@@ -139,26 +140,26 @@ spelled16 (u ∷ v ∷ us) b vs e =
 
 -- ---- a text and its units give each other
 
-pub units_text : (t us : List ℕ) → units_of t ≡ some us → text_of us ≡ some t
+pub units_text : (t us : List ℕ) → units_of t ≡ Some us → text_of us ≡ Some t
 units_text t us e =
     let o = map_is utf16s (scalars8 t) e in
     let s = spelled t o.1.0 in
-    rw o.1.1 (ap (map utf8s) (scalars16_utf16s o.0 s.scalars) ∙ ap some (sym s.bytes))
+    rw o.1.1 (ap (option_map utf8s) (scalars16_utf16s o.0 s.scalars) ∙ ap Some (sym s.bytes))
 
-pub text_units : (us t : List ℕ) → Below 65536 us → text_of us ≡ some t → units_of t ≡ some us
+pub text_units : (us t : List ℕ) → Below 65536 us → text_of us ≡ Some t → units_of t ≡ Some us
 text_units us t b e =
     let o = map_is utf8s (scalars16 us) e in
     let s = spelled16 us b o.0 o.1.0 in
-    rw o.1.1 (ap (map utf16s) (scalars8_utf8s o.0 s.scalars) ∙ ap some (sym s.units))
+    rw o.1.1 (ap (option_map utf16s) (scalars8_utf8s o.0 s.scalars) ∙ ap Some (sym s.units))
 
 -- the units of a text are units
-pub units_below : (t us : List ℕ) → units_of t ≡ some us → Below 65536 us
+pub units_below : (t us : List ℕ) → units_of t ≡ Some us → Below 65536 us
 units_below t us e =
     let o = map_is utf16s (scalars8 t) e in
     rw o.1.1 (utf16s_below o.0 (spelled t o.1.0).scalars)
 
 -- and the bytes of units are bytes
-pub text_below : (us t : List ℕ) → Below 65536 us → text_of us ≡ some t → Below 256 t
+pub text_below : (us t : List ℕ) → Below 65536 us → text_of us ≡ Some t → Below 256 t
 text_below us t b e =
     let o = map_is utf8s (scalars16 us) e in
     rw o.1.1 (utf8s_below o.0 (spelled16 us b o.0 o.1.0).scalars)

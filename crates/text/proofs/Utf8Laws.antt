@@ -1,10 +1,10 @@
 -- UTF-8: what was encoded is read back, what is read was encoded, and the repaired text.
 -- Assumes nothing.
+use Rattle.std.specs.Option.{option_map}
 use mathlib.Core.Path.{◌≡◌, refl, ◌∙◌, sym, ap, ap₂}
 use mathlib.Core.Bool.{Bool, true, false, cond}
 use mathlib.Core.List.{List, [], ◌∷◌, ◌++◌, append_assoc, append-nil, map, flat_map}
-use mathlib.Core.Option
-use mathlib.Core.Option.{Option, some, none}
+use Rattle.std.specs.Prelude.{Option, Some, None}
 use Prim.Native.Nat.{ℕ, suc, ◌+◌, ◌-◌, ◌*◌, ◌/◌, ◌%◌, ◌≤◌, ◌<◌}
 use native.Mathlib.Omega.{arith}
 use borrow.Author.Tests.{ltb-true, leb-true, leb-false, eqb-true, eqb-false}
@@ -125,15 +125,15 @@ parts_after p (v ∷ vs) h =
 pub parts_utf8s : (vs : List ℕ) → Scalars vs → parts_from (utf8s vs) 0 ≡ map sequence vs
 parts_utf8s vs h = parts_after [] vs h
 
-scalars_of_sequences : (vs : List ℕ) → scalars_of (map sequence vs) ≡ some vs
+scalars_of_sequences : (vs : List ℕ) → scalars_of (map sequence vs) ≡ Some vs
 unfolding scalars_of
 scalars_of_sequences [] = refl
 scalars_of_sequences (v ∷ vs) = rw (scalars_of_sequences vs)
 
-pub scalars8_utf8s : (vs : List ℕ) → Scalars vs → scalars8 (utf8s vs) ≡ some vs
+pub scalars8_utf8s : (vs : List ℕ) → Scalars vs → scalars8 (utf8s vs) ≡ Some vs
 scalars8_utf8s vs h = ap scalars_of (parts_utf8s vs h) ∙ scalars_of_sequences vs
 
-pub scalars8_empty : scalars8 [] ≡ some []
+pub scalars8_empty : scalars8 [] ≡ Some []
 unfolding flat_map
 scalars8_empty = scalars8_utf8s [] tt
 
@@ -258,11 +258,11 @@ took_size {s} {i} {v} {next} r =
 
 -- ---- over a whole text
 
-pub map_is : {A B : Type 0} (f : A → B) (m : Option A) {y : B} → Option.map f m ≡ some y → (x : A) × ((m ≡ some x) × (y ≡ f x))
-map_is f (some x) e = (x, (refl, cc))
-map_is f none {y} e = let z : ◌≡◌ {A = ℕ} 0 1 = cc in absurd (omega arith)
+pub map_is : {A B : Type 0} (f : A → B) (m : Option A) {y : B} → option_map f m ≡ Some y → (x : A) × ((m ≡ Some x) × (y ≡ f x))
+map_is f (Some x) e = (x, (refl, cc))
+map_is f None {y} e = let z : ◌≡◌ {A = ℕ} 0 1 = cc in absurd (omega arith)
 
-pub not_some {ℓ} : {P : Type ℓ} {A : Type 0} {y : A} → none ≡ some y → P
+pub not_some {ℓ} : {P : Type ℓ} {A : Type 0} {y : A} → None ≡ Some y → P
 not_some {P} {A} {y} e = let z : ◌≡◌ {A = ℕ} 0 1 = cc in absurd (omega arith)
 
 -- what is read was encoded
@@ -270,10 +270,10 @@ pub record Spelled (s vs : List ℕ) : Type 0 where
   pub scalars : Scalars vs
   pub bytes : s ≡ utf8s vs
 
-spelled_from : (s : List ℕ) → (i : ℕ) → (vs : List ℕ) → scalars_of (parts_from s i) ≡ some vs → Spelled (drop i s) vs
+spelled_from : (s : List ℕ) → (i : ℕ) → (vs : List ℕ) → scalars_of (parts_from s i) ≡ Some vs → Spelled (drop i s) vs
 unfolding scalars_of flat_map
 spelled_from s =
-    parts_rule s (λ i ps. (vs : List ℕ) → scalars_of ps ≡ some vs → Spelled (drop i s) vs)
+    parts_rule s (λ i ps. (vs : List ℕ) → scalars_of ps ≡ Some vs → Spelled (drop i s) vs)
     (λ i h vs e. let n : vs ≡ [] = cc in rw n (record { scalars = tt; bytes = drop_of_length-le s h }))
     (λ i v n t go vs e.
     let o = map_is (λ us. v ∷ us) (scalars_of (parts_from s n)) e in
@@ -282,7 +282,7 @@ spelled_from s =
     rw o.1.1 (record { scalars = (k.scalar, r.scalars); bytes = k.rest ∙ ap (λ (d : List ℕ). utf8 v ++ d) r.bytes }))
     (λ i n t go vs e. not_some e)
 
-pub spelled : (s : List ℕ) → {vs : List ℕ} → scalars8 s ≡ some vs → Spelled s vs
+pub spelled : (s : List ℕ) → {vs : List ℕ} → scalars8 s ≡ Some vs → Spelled s vs
 spelled s {vs} e = spelled_from s 0 vs e
 
 -- ---- the repaired text
@@ -297,10 +297,10 @@ pub repaired_scalars : (s : List ℕ) → Scalars (repaired (parts_from s 0))
 repaired_scalars s = repaired_from s 0
 
 -- a repaired text is well-formed
-pub lossy_well_formed : (s : List ℕ) → scalars8 (lossy s) ≡ some (repaired (parts_from s 0))
+pub lossy_well_formed : (s : List ℕ) → scalars8 (lossy s) ≡ Some (repaired (parts_from s 0))
 lossy_well_formed s = scalars8_utf8s (repaired (parts_from s 0)) (repaired_scalars s)
 
-repaired_same : (ps : List Part) (vs : List ℕ) → scalars_of ps ≡ some vs → repaired ps ≡ vs
+repaired_same : (ps : List Part) (vs : List ℕ) → scalars_of ps ≡ Some vs → repaired ps ≡ vs
 unfolding scalars_of repaired
 repaired_same [] vs e = cc
 repaired_same (sequence v ∷ ps) vs e =
@@ -309,7 +309,7 @@ repaired_same (sequence v ∷ ps) vs e =
 repaired_same (ill_formed i ∷ ps) vs e = not_some e
 
 -- the repaired text of a well-formed one is itself
-pub lossy_same : (s : List ℕ) → {vs : List ℕ} → scalars8 s ≡ some vs → lossy s ≡ s
+pub lossy_same : (s : List ℕ) → {vs : List ℕ} → scalars8 s ≡ Some vs → lossy s ≡ s
 lossy_same s {vs} e = ap utf8s (repaired_same (parts_from s 0) vs e) ∙ sym (spelled s e).bytes
 
 lossy_from : (s : List ℕ) → (i : ℕ) → length (utf8s (repaired (parts_from s i))) ≤ 3 * (length s - i)

@@ -14,23 +14,23 @@ abbrev pub over : {A : Type 0} → List A → List A → List A
 over new old = new ++ drop (length new) old
 
 -- d with w from index i on
-unfoldable pub put : List ℕ → ℕ → List ℕ → List ℕ
+unfoldable pub put : {A : Type 0} → List A → ℕ → List A → List A
 put d i w = take i d ++ w ++ drop (i + length w) d
 
 -- what a function that writes w at i, where it fits, returns and leaves
-pub record Puts (d : List ℕ) (i : ℕ) (w : List ℕ) (next : ℕ) (d' : List ℕ) : Type 0 where
+pub record Puts {A : Type 0} (d : List A) (i : ℕ) (w : List A) (next : ℕ) (d' : List A) : Type 0 where
   pub end : next ≡ i + length w
   pub buffer : d' ≡ put d i w
 
 -- d with w from index i on where w fits, and else d
-unfoldable pub placed : List ℕ → ℕ → List ℕ → List ℕ
+unfoldable pub placed : {A : Type 0} → List A → ℕ → List A → List A
 placed d i w = cond (leb (i + length w) (length d)) (put d i w) d
 
 -- the index after what was written: where w does not fit, i itself
-unfoldable pub placed_end : List ℕ → ℕ → List ℕ → ℕ
+unfoldable pub placed_end : {A : Type 0} → List A → ℕ → List A → ℕ
 placed_end d i w = cond (leb (i + length w) (length d)) (i + length w) i
 
 -- what a function that writes w at i where it fits returns and leaves
-pub record Places (d : List ℕ) (i : ℕ) (w : List ℕ) (next : ℕ) (d' : List ℕ) : Type 0 where
+pub record Places {A : Type 0} (d : List A) (i : ℕ) (w : List A) (next : ℕ) (d' : List A) : Type 0 where
   pub end : next ≡ placed_end d i w
   pub buffer : d' ≡ placed d i w

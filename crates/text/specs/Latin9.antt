@@ -1,7 +1,7 @@
 -- ISO 8859-15, also called Latin-9: its table of code points, and document 02's export and import of labels.
 -- Assumes nothing.
 use Rattle.std.specs.Prelude.{ℕ, zero, suc, cond, List, [], ◌∷◌, map, eqb, length}
-use Rattle.std.proofs.Math.Option.{Option, some, none}
+use Rattle.std.specs.Prelude.{Option, Some, None}
 use Rattle.text.specs.Result.{Result, ok, or_error, check_output, ◌>>◌, ◌>>=◌}
 use Rattle.text.specs.Unicode.{utf8s}
 use Rattle.text.specs.Utf8.{scalars8}
@@ -39,8 +39,8 @@ code_point b = point_in exceptions b
 
 -- the first of n byte values from b on whose code point is v
 unfoldable pub byte_from : ℕ → ℕ → ℕ → Option ℕ
-byte_from v b zero = none
-byte_from v b (suc n) = cond (eqb (code_point b) v) (some b) (byte_from v (suc b) n)
+byte_from v b zero = None
+byte_from v b (suc n) = cond (eqb (code_point b) v) (Some b) (byte_from v (suc b) n)
 
 -- a character's byte: the one of the 256 that has its code point, none where none has
 unfoldable pub byte_of : ℕ → Option ℕ

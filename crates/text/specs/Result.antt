@@ -1,7 +1,7 @@
 -- What a call comes to: its value, or the number and place of the first check that does not hold. A check is document 01's question.
 -- Assumes nothing.
 use Rattle.std.specs.Prelude.{ℕ, zero, suc, ◌-◌, ◌^◌, min, Bool, true, false, List, [], leb}
-use Rattle.std.proofs.Math.Option.{Option, some, none}
+use Rattle.std.specs.Prelude.{Option, Some, None}
 use Rattle.text.specs.Buffer.{over}
 use Rattle.text.specs.declared.error.Failure.{Failure}
 
@@ -28,8 +28,8 @@ map_result f (error e) = error e
 
 -- a value that may be missing, with the failure where it is
 abbrev pub or_error : {A : Type 0} → Failure → Option A → Result A
-or_error e (some a) = ok a
-or_error e none = error e
+or_error e (Some a) = ok a
+or_error e None = error e
 
 -- whether a call is accepted
 abbrev pub is_ok : {A : Type 0} → Result A → Bool

@@ -1,7 +1,8 @@
 -- UTF-8 text by Table 3-7 of the Unicode Standard: one decoding step at a position, and what is folded over the steps of a text.
 -- Assumes nothing.
 use Rattle.std.specs.Prelude.{ℕ, zero, suc, ◌+◌, ◌-◌, ◌*◌, ◌%◌, ◌≤◌, ◌<◌, max, ◌≡◌, Bool, true, cond, ◌&&◌, List, [], ◌∷◌, ◌++◌, leb, ltb, eqb, length, get_or}
-use Rattle.std.proofs.Math.Option.{Option, some, none, map}
+use Rattle.std.specs.Prelude.{Option, Some, None}
+use Rattle.std.specs.Option.{option_map}
 use Rattle.std.proofs.Math.Seq.{slice}
 use Rattle.text.specs.Unicode.{within, is_scalar, utf8, utf8s, utf16s}
 use Rattle.text.specs.declared.utf8.Range.{Range}
@@ -124,15 +125,15 @@ parts_from s i = parts_count (length s - i) s i
 
 -- the scalar values, none where a part is ill-formed
 unfoldable pub scalars_of : List Part → Option (List ℕ)
-scalars_of [] = some []
-scalars_of (sequence v ∷ ps) = map (λ vs. v ∷ vs) (scalars_of ps)
-scalars_of (ill_formed i ∷ ps) = none
+scalars_of [] = Some []
+scalars_of (sequence v ∷ ps) = option_map (λ vs. v ∷ vs) (scalars_of ps)
+scalars_of (ill_formed i ∷ ps) = None
 
 -- the position of the first ill-formed part
 unfoldable pub first_ill_formed : List Part → Option ℕ
-first_ill_formed [] = none
+first_ill_formed [] = None
 first_ill_formed (sequence v ∷ ps) = first_ill_formed ps
-first_ill_formed (ill_formed i ∷ ps) = some i
+first_ill_formed (ill_formed i ∷ ps) = Some i
 
 -- "each maximal ill-formed part becomes EF BF BD", the bytes of U+FFFD
 unfoldable pub repaired : List Part → List ℕ
@@ -152,7 +153,7 @@ scalars8 s = scalars_of (parts_from s 0)
 
 -- the UTF-16 code units of a well-formed text
 abbrev pub units_of : List ℕ → Option (List ℕ)
-units_of s = map utf16s (scalars8 s)
+units_of s = option_map utf16s (scalars8 s)
 
 -- the bytes before the first zero byte, all of them where there is none
 unfoldable pub before_zero : List ℕ → List ℕ

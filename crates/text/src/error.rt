@@ -3,7 +3,7 @@ ghost use Rattle.std.specs.Prelude.{◌≡◌};
 ghost use Rattle.text.specs.Errors.{failure_of};
 
 // The first check of a call that does not hold, with its place. Question N of documents 01 and 02 is the Nth kind.
-#[derive(Clone, Copy)]
+#[derive(Clone, Copy, Debug, PartialEq, Eq)]
 pub enum MatError {
     BlobTooLong(u64),
     BlobTooShort(u64),
@@ -44,17 +44,17 @@ pub enum MatError {
 }
 
 // The number of a check and its place, as the documents count them.
-#[derive(Clone, Copy)]
+#[derive(Clone, Copy, Debug, PartialEq, Eq)]
 pub struct Failure {
     pub number: u32,
     pub place: u64,
 }
 
-impl MatError {
-    pub fn failure(self) -> Failure
-        ensures { result ≡ failure_of self }
-    {
-        match self {
+impl From<MatError> for Failure {
+    ghost from_gives = { λ e f. f ≡ failure_of e };
+
+    fn from(value: MatError) -> Failure {
+        match value {
             MatError::BlobTooLong(place) => Failure { number: 1, place },
             MatError::BlobTooShort(place) => Failure { number: 2, place },
             MatError::OffsetOutOfBounds(place) => Failure { number: 3, place },
@@ -92,5 +92,13 @@ impl MatError {
             MatError::NameIllFormed(place) => Failure { number: 35, place },
             MatError::UnmappableCharacter(place) => Failure { number: 36, place },
         }
+    }
+}
+
+impl MatError {
+    pub fn failure(self) -> Failure
+        ensures { result ≡ failure_of self }
+    {
+        Failure::from(self)
     }
 }

@@ -2,16 +2,15 @@
 ghost use Rattle.std.specs.Prelude.{◌≡◌, not, ◌+◌, ◌≤◌, ◌<◌, eqb, length};
 ghost use Rattle.text.specs.Buffer.{put};
 ghost use Rattle.text.specs.Latin9.{code_point, byte_of, latin9_bytes, export_latin9, latin9_text, import_latin9};
-ghost use Rattle.text.specs.Stages.Latin9.{IsTable, byte_reply_of, size_by, CharacterAt, BytesFit};
-ghost use Rattle.text.specs.Replies.{length_reply_of, Writes};
+ghost use Rattle.text.specs.Stages.Latin9.{IsTable, size_by, CharacterAt, BytesFit};
+ghost use Rattle.text.specs.Replies.{outcome, Writes};
 ghost use Rattle.text.specs.Result.{map_result, values_of};
 ghost use Rattle.text.specs.Unicode.{utf8};
 ghost use Rattle.text.specs.Utf8.{value_at};
 
-use crate::copy::copy_bytes;
+use crate::copy::copy_into;
 use crate::error::MatError;
-use crate::reply::LengthReply;
-use crate::utf8::{highest, is_text_from, put_utf8, whole_length};
+use crate::utf8::{highest, is_text_from, put_utf8, value_at, whole_length};
 
 // The code point of a byte.
 pub fn code_point(byte: u8) -> u32
@@ -28,13 +27,6 @@ fn point_in(points: &[u16], byte: u8) -> u32
     points[byte as usize] as u32
 }
 
-// A character's byte, or that it has none.
-#[derive(Clone, Copy)]
-enum ByteReply {
-    Byte(u8),
-    Unmappable,
-}
-
 // Whether the byte with this number has another code point.
 fn gave_way(value: u32) -> bool
     ensures { result ≡ not (eqb (code_point value) value) }
@@ -46,52 +38,45 @@ fn gave_way(value: u32) -> bool
 }
 
 // A code point below 0x100 is that of the byte with its number or, where this byte has another one, of no byte.
-fn byte_of(value: u32) -> ByteReply
-    ensures { byte_reply_of result ≡ byte_of value }
+fn byte_of(value: u32) -> Option<u8>
+    ensures { result ≡ byte_of value }
 {
     if value < 0x100 {
         if !gave_way(value) {
-            return ByteReply::Byte(value as u8);
+            return Some(value as u8);
         }
-        return ByteReply::Unmappable;
+        return None;
     }
     match value {
-        0x20AC => ByteReply::Byte(0xA4),
-        0x0160 => ByteReply::Byte(0xA6),
-        0x0161 => ByteReply::Byte(0xA8),
-        0x017D => ByteReply::Byte(0xB4),
-        0x017E => ByteReply::Byte(0xB8),
-        0x0152 => ByteReply::Byte(0xBC),
-        0x0153 => ByteReply::Byte(0xBD),
-        0x0178 => ByteReply::Byte(0xBE),
-        _ => ByteReply::Unmappable,
+        0x20AC => Some(0xA4),
+        0x0160 => Some(0xA6),
+        0x0161 => Some(0xA8),
+        0x017D => Some(0xB4),
+        0x017E => Some(0xB8),
+        0x0152 => Some(0xBC),
+        0x0153 => Some(0xBD),
+        0x0178 => Some(0xBE),
+        _ => None,
     }
 }
 
 // The byte of the character of so many bytes at a position, which is not ASCII. None of four bytes has one.
-fn byte_at(text: &[u8], at: usize, size: usize) -> ByteReply
+fn byte_at(text: &[u8], at: usize, size: usize) -> Option<u8>
     requires { CharacterAt text.now at size }
-    ensures { byte_reply_of result ≡ byte_of (value_at text.now at size) }
+    ensures { result ≡ byte_of (value_at text.now at size) }
 {
-    if size == 2 {
-        return byte_of((text[at] % 32) as u32 * 64 + (text[at + 1] % 64) as u32);
+    if 3 < size {
+        return None;
     }
-    if size == 3 {
-        return byte_of(
-            (text[at] % 16) as u32 * 4096
-                + (text[at + 1] % 64) as u32 * 64
-                + (text[at + 2] % 64) as u32,
-        );
-    }
-    ByteReply::Unmappable
+    byte_of(value_at(text, at, size))
 }
 
 // The number of bytes that a text is exported to, which is that of its characters, or the refusal by 30 or 36.
-fn export_length(text: &[u8]) -> LengthReply
-    ensures { length_reply_of result ≡ map_result length (latin9_bytes text.now) }
+fn export_length(text: &[u8]) -> Result<usize, MatError>
+    ensures { outcome result ≡ map_result length (latin9_bytes text.now) }
 {
     if highest(text) < 0x80 {
-        return LengthReply::Length(text.len());
+        return Ok(text.len());
     }
     let mut n: usize = 0;
     let mut i: usize = 0;
@@ -101,25 +86,20 @@ fn export_length(text: &[u8]) -> LengthReply
             i += 1;
             continue;
         }
-        let size = whole_length(text, i);
-        if size == 0 {
-            return LengthReply::Error(MatError::InvalidText(0));
-        }
-        match byte_at(text, i, size) {
-            ByteReply::Byte(_) => {
-                n += 1;
-                i += size;
+        let Some(size) = whole_length(text, i) else {
+            return Err(MatError::InvalidText(0));
+        };
+        let Some(_) = byte_at(text, i, size) else {
+            // 30 is put to the whole text before 36.
+            if is_text_from(text, i + size) {
+                return Err(MatError::UnmappableCharacter(n as u64));
             }
-            ByteReply::Unmappable => {
-                // 30 is put to the whole text before 36.
-                if is_text_from(text, i + size) {
-                    return LengthReply::Error(MatError::UnmappableCharacter(n as u64));
-                }
-                return LengthReply::Error(MatError::InvalidText(0));
-            }
-        }
+            return Err(MatError::InvalidText(0));
+        };
+        n += 1;
+        i += size;
     }
-    LengthReply::Length(n)
+    Ok(n)
 }
 
 // The bytes of a character by its first, which is not ASCII. No character of four has a byte, so that none is asked for.
@@ -144,38 +124,30 @@ fn put_export(text: &[u8], out: &mut [u8])
             continue;
         }
         let size = size_by(text[i]);
-        match byte_at(text, i, size) {
-            ByteReply::Byte(byte) => {
-                out[o] = byte;
-                o += 1;
-                i += size;
-            }
-            ByteReply::Unmappable => {
-                return;
-            }
-        }
+        let Some(byte) = byte_at(text, i, size) else {
+            return;
+        };
+        out[o] = byte;
+        o += 1;
+        i += size;
     }
 }
 
 // Writes a UTF-8 text to the start of out, one byte a character.
-pub fn export_latin9(text: &[u8], out: &mut [u8]) -> LengthReply
+pub fn export_latin9(text: &[u8], out: &mut [u8]) -> Result<usize, MatError>
     ensures { Writes (export_latin9 text.now) out.old result out.new }
 {
-    match export_length(text) {
-        LengthReply::Length(n) => {
-            if out.len() < n {
-                return LengthReply::Error(MatError::OutputTooShort(n as u64));
-            }
-            // A text with as many bytes as characters is ASCII.
-            if n == text.len() {
-                copy_bytes(text, out, 0);
-                return LengthReply::Length(n);
-            }
-            put_export(text, out);
-            LengthReply::Length(n)
-        }
-        LengthReply::Error(e) => LengthReply::Error(e),
+    let n = export_length(text)?;
+    if out.len() < n {
+        return Err(MatError::OutputTooShort(n as u64));
     }
+    // A text with as many bytes as characters is ASCII.
+    if n == text.len() {
+        copy_into(text, out, 0);
+        return Ok(n);
+    }
+    put_export(text, out);
+    Ok(n)
 }
 
 // How many bytes more than one the character of a byte has in UTF-8.
@@ -196,27 +168,23 @@ fn more_in(bytes: &[u8]) -> usize
         return 0;
     }
     let mut more: usize = 0;
-    let mut i: usize = 0;
-    while i < bytes.len() {
-        more += more_bytes(bytes[i]);
-        i += 1;
+    for byte in bytes {
+        more += more_bytes(*byte);
     }
     more
 }
 
 // The length of the text of bytes for an output of so many bytes, or the refusal by 34. The length itself may not fit 64 bits.
-fn import_length(bytes: &[u8], room: usize) -> LengthReply
-    ensures { length_reply_of result ≡ map_result length (import_latin9 bytes.now room) }
+fn import_length(bytes: &[u8], room: usize) -> Result<usize, MatError>
+    ensures { outcome result ≡ map_result length (import_latin9 bytes.now room) }
 {
-    let more = more_in(bytes);
-    if 0xFFFF_FFFF_FFFF_FFFF - bytes.len() < more {
-        return LengthReply::Error(MatError::OutputTooShort(0xFFFF_FFFF_FFFF_FFFF));
-    }
-    let n = bytes.len() + more;
+    let Some(n) = bytes.len().checked_add(more_in(bytes)) else {
+        return Err(MatError::OutputTooShort(u64::MAX));
+    };
     if room < n {
-        return LengthReply::Error(MatError::OutputTooShort(n as u64));
+        return Err(MatError::OutputTooShort(n as u64));
     }
-    LengthReply::Length(n)
+    Ok(n)
 }
 
 // Writes the text of bytes to the start of out, which is long enough for it.
@@ -224,36 +192,29 @@ fn put_import(bytes: &[u8], points: &[u16], out: &mut [u8])
     requires { IsTable points.now × (length (latin9_text bytes.now) ≤ length out.old) }
     ensures { out.new ≡ put out.old 0 (latin9_text bytes.now) }
 {
-    let mut i: usize = 0;
     let mut o: usize = 0;
-    while i < bytes.len() {
-        if bytes[i] < 0x80 {
-            out[o] = bytes[i];
+    for byte in bytes {
+        if *byte < 0x80 {
+            out[o] = *byte;
             o += 1;
-            i += 1;
             continue;
         }
-        o = put_utf8(point_in(points, bytes[i]), out, o);
-        i += 1;
+        o = put_utf8(point_in(points, *byte), out, o);
     }
 }
 
 // Writes the UTF-8 text of bytes, a character each, to the start of text.
-pub fn import_latin9(bytes: &[u8], text: &mut [u8]) -> LengthReply
+pub fn import_latin9(bytes: &[u8], text: &mut [u8]) -> Result<usize, MatError>
     ensures { Writes (import_latin9 bytes.now) text.old result text.new }
 {
-    match import_length(bytes, text.len()) {
-        LengthReply::Length(n) => {
-            // Bytes that have a byte each are ASCII.
-            if n == bytes.len() {
-                copy_bytes(bytes, text, 0);
-                return LengthReply::Length(n);
-            }
-            put_import(bytes, &CODE_POINTS, text);
-            LengthReply::Length(n)
-        }
-        LengthReply::Error(e) => LengthReply::Error(e),
+    let n = import_length(bytes, text.len())?;
+    // Bytes that have a byte each are ASCII.
+    if n == bytes.len() {
+        copy_into(bytes, text, 0);
+        return Ok(n);
     }
+    put_import(bytes, &CODE_POINTS, text);
+    Ok(n)
 }
 
 // The code point of each byte: the byte itself but for eight. The program latin9_table makes it from that rule.

@@ -5,6 +5,5 @@ pub mod convert;
 pub mod copy;
 pub mod error;
 pub mod latin9;
-pub mod reply;
 pub mod utf16;
 pub mod utf8;

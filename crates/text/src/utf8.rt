@@ -1,16 +1,16 @@
 // UTF-8 as the Unicode Standard, chapter 3, has it: one decoding step, well-formedness, and the repaired text of ill-formed bytes.
-ghost use Rattle.std.specs.Prelude.{◌≡◌, ◌+◌, ◌/◌, ◌≤◌, ◌<◌, leb, eqb, length, get_or};
-ghost use Rattle.std.proofs.Math.Option.{some};
+ghost use Rattle.std.specs.Prelude.{◌≡◌, ◌+◌, ◌/◌, ◌≤◌, ◌<◌, Some, IfSome, leb, eqb, length, get_or};
 ghost use Rattle.text.specs.Buffer.{same, put, Puts, Places};
-ghost use Rattle.text.specs.Replies.{validity_place, CountsUnits, terminated_length, length_of, lossy_length, WritesLossy};
+ghost use Rattle.text.specs.Replies.{error_place, CountsUnits, terminated_length, lossy_length, WritesLossy};
 ghost use Rattle.text.specs.Stages.Utf8.{step_has, has_second, whole_length, is_text};
 ghost use Rattle.text.specs.Unicode.{Below, is_scalar, utf8, encoded};
-ghost use Rattle.text.specs.Utf8.{sequence_length, second_range, has_in, step_at, parts_from, scalars_of, first_ill_formed, lossy};
+ghost use Rattle.text.specs.Utf8.{sequence_length, second_range, has_in, value_at, step_at, parts_from, scalars_of, first_ill_formed, lossy};
 
-use crate::copy::copy_bytes;
+use crate::copy::copy_into;
+use crate::error::MatError;
 
 // The range of a byte, both ends in it.
-#[derive(Clone, Copy)]
+#[derive(Clone, Copy, Debug, PartialEq, Eq)]
 struct Range {
     low: u8,
     high: u8,
@@ -75,7 +75,7 @@ fn has(s: &[u8], i: usize, low: u8, high: u8) -> bool
 }
 
 // What decoding at a position finds. The definitions of other crates name its cases.
-#[derive(Clone, Copy)]
+#[derive(Clone, Copy, Debug, PartialEq, Eq)]
 pub enum Step {
     // A well-formed sequence: its scalar value, and the position past it.
     Scalar { value: u32, next: usize },
@@ -102,7 +102,25 @@ fn step_at(s: &[u8], at: usize) -> Step
     sequence_at(s, at)
 }
 
-// The same at a byte that is there.
+// The scalar value of a sequence of two to four bytes.
+pub(crate) fn value_at(s: &[u8], at: usize, size: usize) -> u32
+    requires size { (2 ≤ size) × (size ≤ 4) }
+    requires inside { at + size ≤ length s.now }
+    ensures { result ≡ value_at s.now at size }
+{
+    let b = (s[at + 1] % 64) as u32;
+    if size == 2 {
+        return (s[at] % 32) as u32 * 64 + b;
+    }
+    let c = (s[at + 2] % 64) as u32;
+    if size == 3 {
+        return (s[at] % 16) as u32 * 4096 + b * 64 + c;
+    }
+    let d = (s[at + 3] % 64) as u32;
+    (s[at] % 8) as u32 * 262144 + b * 4096 + c * 64 + d
+}
+
+// The same step at a byte that is there.
 fn sequence_at(s: &[u8], at: usize) -> Step
     requires { at < length s.now }
     ensures { result ≡ step_at s.now at }
@@ -122,29 +140,26 @@ fn sequence_at(s: &[u8], at: usize) -> Step
     if !has(s, at + 1, range.low, range.high) {
         return Step::IllFormed { next: at + 1 };
     }
-    let b = (s[at + 1] % 64) as u32;
     if n == 2 {
         return Step::Scalar {
-            value: (lead % 32) as u32 * 64 + b,
+            value: value_at(s, at, 2),
             next: at + 2,
         };
     }
     if !has(s, at + 2, 0x80, 0xBF) {
         return Step::IllFormed { next: at + 2 };
     }
-    let c = (s[at + 2] % 64) as u32;
     if n == 3 {
         return Step::Scalar {
-            value: (lead % 16) as u32 * 4096 + b * 64 + c,
+            value: value_at(s, at, 3),
             next: at + 3,
         };
     }
     if !has(s, at + 3, 0x80, 0xBF) {
         return Step::IllFormed { next: at + 3 };
     }
-    let d = (s[at + 3] % 64) as u32;
     Step::Scalar {
-        value: (lead % 8) as u32 * 262144 + b * 4096 + c * 64 + d,
+        value: value_at(s, at, 4),
         next: at + 4,
     }
 }
@@ -158,41 +173,41 @@ fn has_second(s: &[u8], at: usize) -> bool
     has(s, at + 1, range.low, range.high)
 }
 
-// The length of the well-formed sequence at a byte that is not ASCII, 0 where there is none. The last byte is looked at first: where it is
-// there, the others are, and the end of the text is tested once.
-pub(crate) fn whole_length(s: &[u8], at: usize) -> usize
+// The length of the well-formed sequence at a byte that is not ASCII. The last byte is looked at first: where it is there, the others are,
+// and the end of the text is tested once.
+pub(crate) fn whole_length(s: &[u8], at: usize) -> Option<usize>
     requires { (at < length s.now) × (128 ≤ get_or s.now at 0) }
-    ensures { (result ≡ whole_length s.now at) × (result ≤ 4) }
+    ensures { (result ≡ whole_length s.now at) × IfSome result (λ n. n ≤ 4) }
 {
     let lead = s[at];
     if has_length(lead, 0) {
-        return 0;
+        return None;
     }
     if has_length(lead, 2) {
         if !has_second(s, at) {
-            return 0;
+            return None;
         }
-        return 2;
+        return Some(2);
     }
     if has_length(lead, 3) {
         if !has(s, at + 2, 0x80, 0xBF) {
-            return 0;
+            return None;
         }
         if !has_second(s, at) {
-            return 0;
+            return None;
         }
-        return 3;
+        return Some(3);
     }
     if !has(s, at + 3, 0x80, 0xBF) {
-        return 0;
+        return None;
     }
     if !has(s, at + 2, 0x80, 0xBF) {
-        return 0;
+        return None;
     }
     if !has_second(s, at) {
-        return 0;
+        return None;
     }
-    4
+    Some(4)
 }
 
 // The code units of a sequence of so many bytes.
@@ -203,22 +218,13 @@ fn units_of(size: usize) -> usize
     if size == 4 { 2 } else { 1 }
 }
 
-// The larger of two bytes.
-fn larger(a: u8, b: u8) -> u8
-    ensures { (a ≤ result) × (b ≤ result) }
-{
-    if a < b { b } else { a }
-}
-
 // The highest byte of a text. A turn only keeps the larger of two bytes, which the compiler does for many of them together.
 pub(crate) fn highest(text: &[u8]) -> u8
     ensures { Below (result + 1) text.now }
 {
     let mut high: u8 = 0;
-    let mut i: usize = 0;
-    while i < text.len() {
-        high = larger(high, text[i]);
-        i += 1;
+    for byte in text {
+        high = high.max(*byte);
     }
     high
 }
@@ -250,16 +256,11 @@ pub(crate) fn utf8_size(value: u32) -> usize
 pub fn utf8_len(value: u32) -> usize
     ensures { (result ≡ length (encoded utf8 value)) × (result ≤ 4) }
 {
-    if value < 0x80 {
-        return 1;
+    if is_scalar(value) {
+        utf8_size(value)
+    } else {
+        0
     }
-    if value < 0x800 {
-        return 2;
-    }
-    if value < 0x10000 {
-        return if is_scalar(value) { 3 } else { 0 };
-    }
-    if is_scalar(value) { 4 } else { 0 }
 }
 
 // Writes the bytes of a scalar value into out from index at where they fit, and returns the index after them. A number that is no
@@ -308,19 +309,19 @@ pub(crate) fn put_utf8(value: u32, out: &mut [u8], at: usize) -> usize
     at + 4
 }
 
-// The number of UTF-16 code units of a well-formed text, or the position of the first ill-formed part.
-#[derive(Clone, Copy)]
-pub enum UnitCount {
-    Units(usize),
-    IllFormed(usize),
+// That a text is ill-formed: the position of its first ill-formed part, up to which it is well-formed.
+#[derive(Clone, Copy, Debug, PartialEq, Eq)]
+pub struct Utf8Error {
+    pub valid_up_to: usize,
 }
 
-// A sequence has one code unit, and one of four bytes two: no scalar value is computed. A text of ASCII alone is not decoded.
-pub fn count_units(text: &[u8]) -> UnitCount
+// The number of UTF-16 code units of a well-formed text. A sequence has one, and one of four bytes two: no scalar value is computed. A text
+// of ASCII alone is not decoded.
+pub fn count_units(text: &[u8]) -> Result<usize, Utf8Error>
     ensures { CountsUnits text.now result }
 {
     if highest(text) < 0x80 {
-        return UnitCount::Units(text.len());
+        return Ok(text.len());
     }
     let mut n: usize = 0;
     let mut i: usize = 0;
@@ -330,30 +331,21 @@ pub fn count_units(text: &[u8]) -> UnitCount
             i += 1;
             continue;
         }
-        let size = whole_length(text, i);
-        if size == 0 {
-            return UnitCount::IllFormed(i);
-        }
+        let Some(size) = whole_length(text, i) else {
+            return Err(Utf8Error { valid_up_to: i });
+        };
         n += units_of(size);
         i += size;
     }
-    UnitCount::Units(n)
+    Ok(n)
 }
 
-// Whether a text is well-formed, or the position of the first ill-formed part.
-#[derive(Clone, Copy)]
-pub enum Validity {
-    WellFormed,
-    IllFormed(usize),
-}
-
-pub fn validate(text: &[u8]) -> Validity
-    ensures { validity_place result ≡ first_ill_formed (parts_from text.now 0) }
+// Whether a text is well-formed.
+pub fn validate(text: &[u8]) -> Result<(), Utf8Error>
+    ensures { error_place result ≡ first_ill_formed (parts_from text.now 0) }
 {
-    match count_units(text) {
-        UnitCount::Units(_) => Validity::WellFormed,
-        UnitCount::IllFormed(at) => Validity::IllFormed(at),
-    }
+    count_units(text)?;
+    Ok(())
 }
 
 // Whether all from a position on is well-formed.
@@ -366,68 +358,56 @@ pub(crate) fn is_text_from(text: &[u8], start: usize) -> bool
             i += 1;
             continue;
         }
-        let size = whole_length(text, i);
-        if size == 0 {
+        let Some(size) = whole_length(text, i) else {
             return false;
-        }
+        };
         i += size;
     }
     true
 }
 
-// The length of a text in bytes, or that what it is read from is ill-formed.
-#[derive(Clone, Copy)]
-pub enum TextLength {
-    Length(usize),
-    IllFormed,
-}
-
 // The length of a text that ends before its first zero byte, or with all its bytes where there is none: its end is found as it is looked
-// at.
-pub fn terminated_length(bytes: &[u8]) -> TextLength
-    ensures { length_of result ≡ terminated_length bytes.now }
+// at. An ill-formed one has none.
+pub fn terminated_length(bytes: &[u8]) -> Option<usize>
+    ensures { result ≡ terminated_length bytes.now }
 {
     let mut i: usize = 0;
     while i < bytes.len() {
         if bytes[i] == 0 {
-            return TextLength::Length(i);
+            return Some(i);
         }
         if bytes[i] < 0x80 {
             i += 1;
             continue;
         }
-        let size = whole_length(bytes, i);
-        if size == 0 {
-            return TextLength::IllFormed;
-        }
-        i += size;
+        i += whole_length(bytes, i)?;
     }
-    TextLength::Length(i)
+    Some(i)
 }
 
-// The length of a repaired text and the number of ill-formed parts that were replaced, a genuine U+FFFD not among them; or that the
-// length does not fit 64 bits.
-#[derive(Clone, Copy)]
-pub enum LossyLength {
-    Length { bytes: usize, replaced: usize },
-    TooLong,
+// The bytes of a repaired text and the number of ill-formed parts that were replaced, a genuine U+FFFD not among them.
+#[derive(Clone, Copy, Debug, PartialEq, Eq)]
+pub struct LossySize {
+    pub bytes: usize,
+    pub replaced: usize,
 }
 
-pub fn lossy_length(s: &[u8]) -> LossyLength
+// The size of the repaired text, none where its bytes do not fit 64 bits.
+pub fn lossy_length(s: &[u8]) -> Option<LossySize>
     ensures { result ≡ lossy_length s.now }
 {
     match count_units(s) {
-        UnitCount::Units(_) => LossyLength::Length {
+        Ok(_) => Some(LossySize {
             bytes: s.len(),
             replaced: 0,
-        },
-        UnitCount::IllFormed(at) => repaired_length(s, at),
+        }),
+        Err(e) => repaired_length(s, e.valid_up_to),
     }
 }
 
 // The same for a text whose first ill-formed part stands at a position.
-fn repaired_length(s: &[u8], at: usize) -> LossyLength
-    requires { first_ill_formed (parts_from s.now 0) ≡ some at }
+fn repaired_length(s: &[u8], at: usize) -> Option<LossySize>
+    requires { first_ill_formed (parts_from s.now 0) ≡ Some at }
     ensures { result ≡ lossy_length s.now }
 {
     // how many of the bytes before i are in ill-formed parts: the others are kept
@@ -454,13 +434,13 @@ fn repaired_length(s: &[u8], at: usize) -> LossyLength
         }
     }
     let kept = i - broken;
-    if (0xFFFF_FFFF_FFFF_FFFF - kept) / 3 < replaced {
-        return LossyLength::TooLong;
+    if (usize::MAX - kept) / 3 < replaced {
+        return None;
     }
-    LossyLength::Length {
+    Some(LossySize {
         bytes: kept + 3 * replaced,
         replaced,
-    }
+    })
 }
 
 // Whether the repaired text of s has at most so many bytes. A byte gives three at most, so that with plenty of room nothing is measured.
@@ -471,8 +451,8 @@ fn lossy_fits(s: &[u8], room: usize) -> bool
         return true;
     }
     match lossy_length(s) {
-        LossyLength::Length { bytes, replaced: _ } => bytes <= room,
-        LossyLength::TooLong => false,
+        Some(size) => size.bytes <= room,
+        None => false,
     }
 }
 
@@ -514,32 +494,23 @@ fn put_repaired(s: &[u8], out: &mut [u8], at: usize) -> usize
     }
 }
 
-// What writing a repaired text came to: its bytes and the number of replaced parts, or the bytes that it needs.
-#[derive(Clone, Copy)]
-pub enum LossyReply {
-    Written { bytes: usize, replaced: usize },
-    TooShort(usize),
-}
-
 // Writes the repaired text of s, in which each maximal ill-formed part is EF BF BD, to the start of out, or nothing where out is too
 // short for all of it. A text in which nothing is replaced is its own repaired text.
-pub fn write_lossy(s: &[u8], out: &mut [u8]) -> LossyReply
+pub fn write_lossy(s: &[u8], out: &mut [u8]) -> Result<LossySize, MatError>
     ensures { WritesLossy s.now out.old result out.new }
 {
-    match lossy_length(s) {
-        LossyLength::Length { bytes, replaced } => {
-            if out.len() < bytes {
-                return LossyReply::TooShort(bytes);
-            }
-            if replaced == 0 {
-                copy_bytes(s, out, 0);
-                return LossyReply::Written { bytes, replaced };
-            }
-            put_repaired(s, out, 0);
-            LossyReply::Written { bytes, replaced }
-        }
-        LossyLength::TooLong => LossyReply::TooShort(0xFFFF_FFFF_FFFF_FFFF),
+    let Some(size) = lossy_length(s) else {
+        return Err(MatError::OutputTooShort(u64::MAX));
+    };
+    if out.len() < size.bytes {
+        return Err(MatError::OutputTooShort(size.bytes as u64));
     }
+    if size.replaced == 0 {
+        copy_into(s, out, 0);
+        return Ok(size);
+    }
+    put_repaired(s, out, 0);
+    Ok(size)
 }
 
 // Whether s has the scalar value at a position.

@@ -4,7 +4,7 @@ use Prim.Native.Nat.{ℕ, suc, ◌+◌, ◌*◌, ◌/◌, ◌%◌, ◌≤◌, �
 use mathlib.Core.Path.{◌≡◌, refl, sym, ap, ap₂, ◌∙◌}
 use mathlib.Core.Bool.{true}
 use mathlib.Core.List.{List, [], ◌∷◌, ◌++◌, flat_map}
-use mathlib.Core.Option.{some}
+use Rattle.std.specs.Prelude.{Some}
 use native.Mathlib.Numerals.{add-one}
 use native.Mathlib.Omega.{arith}
 use borrow.Author.Tests.{le-leb, eq-eqb, eqb-true, leb-true}
@@ -79,7 +79,7 @@ module _ (dims text spans : List ℕ) {a : Array} (e : array_of dims text spans 
   pub strings_inside : end_at spans i ≤ length text
   strings_inside = passed_at.1.1.inside
 
-  pub strings_well_formed : units_of (string_at text spans i) ≡ some (string_units (string_at text spans i))
+  pub strings_well_formed : units_of (string_at text spans i) ≡ Some (string_units (string_at text spans i))
   strings_well_formed = passed_at.1.1.well_formed
 
 -- ---- strings end to end

@@ -2,24 +2,23 @@
 -- Assumes nothing.
 use mathlib.Core.Path.{◌≡◌, refl, sym, ap, ◌∙◌}
 use mathlib.Core.List.{List, [], ◌∷◌, ◌++◌, flat_map, append_assoc, append-nil}
-use Prim.Native.Nat.{ℕ, zero, suc, ◌+◌, ◌-◌, ◌*◌, ◌/◌, ◌%◌, ◌^◌, ◌≤◌, ◌<◌, min}
+use Prim.Native.Nat.{ℕ, zero, suc, ◌+◌, ◌-◌, ◌*◌, ◌^◌, ◌≤◌, ◌<◌, min}
 use native.Mathlib.Nat.{add-zero, zero-add, suc-add, mul-suc}
 use native.Mathlib.Numerals.{add-one}
 use native.Mathlib.Omega.{arith}
 use borrow.Author.Tests.{le-leb, lt-leb}
-use lib.ListN.{length, get_or, set, take, replicate, length-append}
-use lib.Seq.{length-take-le, take_all, take-suc}
+use borrow.Rule.Slice.PartMut.{put_mid}
+use Rattle.std.specs.Int.{w32, to_le_bytes}
+use lib.ListN.{length, get_or, take, drop, replicate, length-append, length-take, length-drop, length-replicate, replicate-append-replicate}
+use lib.Seq.{length-take-le, take-suc, drop-drop}
 use Rattle.text.specs.Buffer.{put, Puts}
 use Rattle.text.specs.Result.{ok, error}
 use Rattle.text.specs.declared.error.MatError.TheVariants.{LimitExceeded, OutputTooShort}
-use Rattle.text.specs.declared.reply.LengthReply.TheVariants as length_reply
-use Rattle.text.proofs.BufferLaws.{put_none, put_front, put_more, length_put}
-use Rattle.text.proofs.ByteLaws.{stores}
-use Rattle.writer.specs.FileWrapper.{u32_bytes, u32s, name_heap, class_entries, entry, zero_entry, entries_from, region, regions, offsets_from, file_wrapper, build_metadata}
+use Rattle.std.specs.Prelude.{Ok, Err}
+use Rattle.text.proofs.BufferLaws.{put_none, put_front, put_more, put_over, length_put}
+use Rattle.writer.specs.FileWrapper.{Region, SavedBlocks, Objects, Dependents, u32_bytes, u32s, name_heap, class_entries, entry, zero_entry, entries_from, region, regions, offsets_from, file_wrapper, build_metadata}
 use Rattle.writer.specs.Replies.{BuildsMetadata}
-use Rattle.writer.specs.Stages.FileWrapper.{PutsPart, file_head}
-use Rattle.writer.specs.declared.file_wrapper.Region.{Region}
-use Rattle.writer.specs.declared.file_wrapper.Region.TheVariants.{SavedBlocks, Objects, Dependents}
+use Rattle.writer.specs.Stages.FileWrapper.{file_head}
 
 -- ---- words
 
@@ -95,19 +94,37 @@ unfolding file_head
 length_head n = simp length-append (omega (arith, length_offsets n, length_u32s (0 ∷ 0 ∷ 0 ∷ 0 ∷ 0 ∷ 2 ∷ 0 ∷ 0 ∷ []), length_u32s (zero_entry SavedBlocks)))
 
 regroup : (w h c u es v eo p x ed z : List ℕ) → w ++ (h ++ (c ++ ((u ++ es) ++ ((v ++ eo) ++ (p ++ ((x ++ ed) ++ z))))))
-    ≡ (w ++ (h ++ c) ++ u) ++ (es ++ (v ++ (eo ++ ((p ++ x) ++ (ed ++ z)))))
+    ≡ (w ++ (h ++ c) ++ u) ++ (es ++ (v ++ (eo ++ (p ++ (x ++ (ed ++ z))))))
 regroup w h c u es v eo p x ed z = simp append_assoc
 
+-- no object has dependents, so that their entries are zeros
+dependents_are : (i n : ℕ) → entries_from Dependents i n ≡ replicate (8 * n) 0
+unfolding entries_from u32s flat_map
+dependents_are i zero = refl
+dependents_are i (suc n) =
+    let e : 8 * suc n ≡ 8 + 8 * n = omega arith in
+    rw (e, dependents_are (suc i) n) (replicate-append-replicate 8 (8 * n) 0)
+
+-- the normal block 0, the dependents' block 0 and blocks, and the last region
+zeros_last : (n : ℕ) → replicate 8 0 ++ (replicate 8 0 ++ (entries_from Dependents 0 n ++ replicate 8 0)) ≡ replicate (24 + 8 * n) 0
+zeros_last n =
+    let e : 8 + (8 + (8 * n + 8)) ≡ 24 + 8 * n = omega arith in
+    ap (λ (t : List ℕ). replicate 8 0 ++ (replicate 8 0 ++ (t ++ replicate 8 0))) (dependents_are 0 n)
+    ∙ ap (λ (t : List ℕ). replicate 8 0 ++ (replicate 8 0 ++ t)) (replicate-append-replicate (8 * n) 8 0)
+    ∙ ap (λ (t : List ℕ). replicate 8 0 ++ t) (replicate-append-replicate 8 (8 * n + 8) 0)
+    ∙ replicate-append-replicate 8 (8 + (8 * n + 8)) 0
+    ∙ ap (λ (k : ℕ). replicate k 0) e
+
 pub file_wrapper_is : (n : ℕ) → file_wrapper n
-    ≡ file_head n ++ (entries_from SavedBlocks 0 n ++ (u32s (replicate 6 0) ++ (entries_from Objects 0 n ++ (u32s (replicate 4 0)
-    ++ (entries_from Dependents 0 n ++ u32s (replicate 2 0))))))
+    ≡ file_head n ++ (entries_from SavedBlocks 0 n ++ (u32s (replicate 6 0) ++ (entries_from Objects 0 n ++ replicate (24 + 8 * n) 0)))
 unfolding file_wrapper file_head regions region u32s flat_map
 file_wrapper_is n =
     regroup (u32s (4 ∷ 2 ∷ offsets_from 56 (regions n))) name_heap class_entries (u32s (zero_entry SavedBlocks)) (entries_from SavedBlocks 0 n)
     (u32s (zero_entry Objects)) (entries_from Objects 0 n) (u32_bytes 0 ++ u32_bytes 0) (u32s (zero_entry Dependents)) (entries_from Dependents 0 n) (u32_bytes 0 ++ u32_bytes 0)
+    ∙ ap (λ (t : List ℕ). file_head n ++ (entries_from SavedBlocks 0 n ++ (u32s (replicate 6 0) ++ (entries_from Objects 0 n ++ t)))) (zeros_last n)
 
 pub length_file_wrapper : (n : ℕ) → length (file_wrapper n) ≡ 144 + 48 * n
-length_file_wrapper n = simp (file_wrapper_is, length-append, length_head, length_entries, length_u32s) (omega arith)
+length_file_wrapper n = simp (file_wrapper_is, length-append, length_head, length_entries, length_u32s, length-replicate) (omega arith)
 
 -- ---- writing, one thing after another
 
@@ -121,143 +138,113 @@ puts_then {d} {d'} {d''} {w} {x} {i} {j} {k} p q room =
 pub puts_length : {d d' w : List ℕ} {i j : ℕ} → Puts d i w j d' → i + length w ≤ length d → length d' ≡ length d
 puts_length {d} {d'} {w} {i} {j} p room = ap length p.buffer ∙ length_put d i w room
 
--- a word, byte by byte
-pub u32_stored : (d : List ℕ) (at v : ℕ) → at + 4 ≤ length d
-    → Puts d at (u32_bytes v) (at + 4) (set (set (set (set d at (v % 256)) (at + 1) (v / 256 % 256)) (at + 2) (v / 65536 % 256)) (at + 3) (v / 16777216 % 256))
-u32_stored d at v room =
-    let one : at + 1 ≡ suc at = omega arith in
-    let two : at + 2 ≡ suc (suc at) = omega arith in
-    let three : at + 3 ≡ suc (suc (suc at)) = omega arith in
-    record { end = omega arith; buffer = rw (one, two, three) (stores (u32_bytes v) d at room) }
+-- a part of a buffer, from index a on, that is overwritten
+pub mid_put : (d : List ℕ) (a k : ℕ) (w : List ℕ) → length w ≡ k → a + k ≤ length d → put_mid a k d w ≡ put d a w
+mid_put d a k w e h =
+    let n : length (take a d ++ w) ≡ a + length w = omega (arith, length-append (take a d) w, length-take-le a d (omega arith)) in
+    rw (sym e, drop-drop (length w) a d)
+    (sym (append_assoc (take a d) w (drop (a + length w) d)) ∙ sym (put_over d a (take a d) w (omega arith) refl ∙ rw n))
 
--- the loop that writes words ws to d₀ from index at on: d as it is, with i words written up to index next
-pub record Writing (ws d₀ : List ℕ) (at : ℕ) (d : List ℕ) (next i : ℕ) : Type 0 where
+-- w and then x, where x goes after it
+pub put_then : (d w x : List ℕ) (i j : ℕ) {d' d'' : List ℕ} → d' ≡ put d i w → d'' ≡ put d' j x → j ≡ i + length w → j + length x ≤ length d → d'' ≡ put d i (w ++ x)
+put_then d w x i j p q e room = q ∙ ap (λ (b : List ℕ). put b j x) p ∙ put_more d i w x j e room
+
+-- ---- the loop that writes words ws to d₀ from index at on: d as it is, with i words written
+
+pub record Writing (ws d₀ : List ℕ) (at : ℕ) (d : List ℕ) (i : ℕ) : Type 0 where
   pub bound : i ≤ length ws
-  pub room : at + 4 * length ws ≤ length d₀
-  pub same : length d ≡ length d₀
-  pub end : next ≡ at + 4 * i
   pub written : d ≡ put d₀ at (u32s (take i ws))
 
+u32s_more : (ws : List ℕ) (i : ℕ) → i < length ws → u32s (take (i + 1) ws) ≡ u32s (take i ws) ++ u32_bytes (get_or ws i 0)
+unfolding u32s flat_map
+u32s_more ws i h =
+    rw (add-one, take-suc ws i 0 h) (u32s_append (take i ws) (get_or ws i 0 ∷ []) ∙ ap (λ (r : List ℕ). u32s (take i ws) ++ r) (append-nil (u32_bytes (get_or ws i 0))))
+
 module _ (ws d₀ : List ℕ) (at : ℕ) where
-  pub write_start : at + 4 * length ws ≤ length d₀ → Writing ws d₀ at d₀ at 0
+  pub write_start : Writing ws d₀ at d₀ 0
   unfolding u32s flat_map
-  write_start h = record { bound = omega arith; room = h; same = refl; end = omega arith; written = sym (put_none d₀ at) }
+  write_start = record { bound = omega arith; written = sym (put_none d₀ at) }
 
-  module _ {d : List ℕ} {next i : ℕ} (m : Writing ws d₀ at d next i) where
-    pub write_room : i < length ws → next + 4 ≤ length d
-    write_room h = omega arith
+  pub write_turn : {d w : List ℕ} {i : ℕ} → at + 4 * length ws ≤ length d₀ → Writing ws d₀ at d i → i < length ws → w ≡ to_le_bytes w32 (get_or ws i 0)
+      → Writing ws d₀ at (put_mid (at + 4 * i) (at + 4 * i + 4 - (at + 4 * i)) d w) (i + 1)
+  write_turn {d} {w} {i} room m h b =
+      let l = length_u32s (take i ws) in
+      let t = length-take-le i ws m.bound in
+      let s : length d ≡ length d₀ = ap length m.written ∙ length_put d₀ at (u32s (take i ws)) (omega arith) in
+      let p = mid_put d (at + 4 * i) (at + 4 * i + 4 - (at + 4 * i)) w (omega (arith, ap length b)) (omega arith) in
+      record { bound = omega arith; written = rw (u32s_more ws i h, sym b) (put_then _ _ _ _ _ m.written p (omega arith) (omega (arith, ap length b))) }
 
-    pub write_turn : i < length ws → {d' : List ℕ} {next' : ℕ} → Puts d next (u32_bytes (get_or ws i 0)) next' d' → Writing ws d₀ at d' next' (i + 1)
-    unfolding u32s flat_map
-    write_turn h {d'} p =
-        let l = length_u32s (take i ws) in
-        let k = length-take-le i ws m.bound in
-        let s : length d' ≡ length d = puts_length p (omega arith) in
-        let w : u32s (take (i + 1) ws) ≡ u32s (take i ws) ++ u32_bytes (get_or ws i 0) =
-        rw (add-one, take-suc ws i 0 h) (u32s_append (take i ws) (get_or ws i 0 ∷ []) ∙ ap (λ (r : List ℕ). u32s (take i ws) ++ r) (append-nil (u32_bytes (get_or ws i 0)))) in
-        record {
-          bound = omega arith;
-          room = m.room;
-          same = omega arith;
-          end = omega (arith, p.end);
-          written =
-              p.buffer
-              ∙ ap (λ (b : List ℕ). put b next (u32_bytes (get_or ws i 0))) m.written
-              ∙ put_more d₀ at (u32s (take i ws)) (u32_bytes (get_or ws i 0)) next (omega arith) (omega arith)
-              ∙ ap (put d₀ at) (sym w);
-        }
+-- ---- a loop that writes the entries of a region after what stands before them: d as it is, with i entries written
 
-    pub write_last : length ws ≤ i → PutsPart d₀ at (4 * length ws) (u32s ws) next d
-    write_last h = record { end = omega arith; buffer = m.written ∙ ap (λ (vs : List ℕ). put d₀ at (u32s vs)) (take_all i ws h) }
+pub record Entering (r : Region) (n : ℕ) (front d₀ d : List ℕ) (i : ℕ) : Type 0 where
+  pub room : length front + entry_size r * n ≤ length d₀
+  pub written : d ≡ put d₀ 0 (front ++ entries_from r 0 i)
 
--- ---- writing the entries of a region
+entries_fit : (r : Region) (i n : ℕ) → i < n → entry_size r * (i + 1) ≤ entry_size r * n
+entries_fit SavedBlocks i n h = omega arith
+entries_fit Objects i n h = omega arith
+entries_fit Dependents i n h = omega arith
 
--- an entry of kind k, which is r, by its words ws
-words_of : (r : Region) (i : ℕ) → length (entry r i) ≡ length (entry r 0)
-words_of SavedBlocks i = refl
-words_of Objects i = refl
-words_of Dependents i = refl
-
-module _ {k r : Region} {ws : List ℕ} (i : ℕ) (g : k ≡ r) (e : ws ≡ entry r i) where
-  pub entry_put : {d d' : List ℕ} {at next : ℕ} → PutsPart d at (4 * length ws) (u32s ws) next d' → Puts d at (u32s (entry k i)) next d'
-  entry_put p = rw (g, sym e) (record { end = omega (arith, p.end, length_u32s ws); buffer = p.buffer })
-
--- the loop that writes the entries of n objects to d₀ from index at on: d as it is, with i entries written up to index next
-pub record Entering (r : Region) (n : ℕ) (d₀ : List ℕ) (at : ℕ) (d : List ℕ) (next i : ℕ) : Type 0 where
-  pub bound : i ≤ n
-  pub room : at + length (entries_from r 0 n) ≤ length d₀
-  pub same : length d ≡ length d₀
-  pub written : Puts d₀ at (entries_from r 0 i) next d
-
-entries_fit : (r : Region) (i n : ℕ) → i < n → length (entries_from r 0 i) + entry_size r ≤ length (entries_from r 0 n)
-entries_fit SavedBlocks i n h = simp length_entries (omega arith)
-entries_fit Objects i n h = simp length_entries (omega arith)
-entries_fit Dependents i n h = simp length_entries (omega arith)
-
-module _ (r : Region) (n : ℕ) (d₀ : List ℕ) (at : ℕ) where
-  pub entries_start : at + entry_size r * n ≤ length d₀ → Entering r n d₀ at d₀ at 0
+module _ (r : Region) (n : ℕ) (front d₀ : List ℕ) where
+  pub entries_start : {d : List ℕ} → length front + entry_size r * n ≤ length d₀ → d ≡ put d₀ 0 front → Entering r n front d₀ d 0
   unfolding entries_from
-  entries_start h = record {
-    bound = omega arith;
-    room = rw (length_entries r 0 n) h;
-    same = refl;
-    written = record { end = omega arith; buffer = sym (put_none d₀ at) };
-  }
+  entries_start h e = record { room = h; written = rw append-nil e }
 
-  module _ {d : List ℕ} {next i : ℕ} (e : Entering r n d₀ at d next i) where
-    pub entries_room : i < n → next + entry_size r ≤ length d
-    entries_room h = omega (arith, entries_fit r i n h)
+  pub entries_turn : {d d' : List ℕ} {i at : ℕ} → Entering r n front d₀ d i → i < n → at ≡ length front + entry_size r * i → d' ≡ put d at (u32s (entry r i))
+      → Entering r n front d₀ d' (i + 1)
+  entries_turn {d} {d'} {i} {at} m h e p =
+      let k : front ++ entries_from r 0 (i + 1) ≡ (front ++ entries_from r 0 i) ++ u32s (entry r i) =
+      rw (entries_more r i) (sym (append_assoc front (entries_from r 0 i) (u32s (entry r i)))) in
+      let l : length (front ++ entries_from r 0 i) ≡ length front + entry_size r * i = omega (arith, length-append front (entries_from r 0 i), length_entries r 0 i) in
+      let f = entries_fit r i n h in
+      let s = length_entry r i in
+      record { room = m.room; written = rw k (put_then _ _ _ _ _ m.written p (omega arith) (omega arith)) }
 
-    pub entries_turn : {d' : List ℕ} {next' : ℕ} → i < n → Puts d next (u32s (entry r i)) next' d' → Entering r n d₀ at d' next' (i + 1)
-    entries_turn {d'} {next'} h p =
-        let size = length_entry r i in
-        let fit = entries_fit r i n h in
-        let same : length d' ≡ length d = puts_length p (omega arith) in
-        record {
-          bound = omega arith;
-          room = e.room;
-          same = omega arith;
-          written = rw entries_more (puts_then e.written p (omega arith));
-        }
+-- ---- the whole blob, part after part
 
-    pub entries_last : n ≤ i → PutsPart d₀ at (entry_size r * n) (entries_from r 0 n) next d
-    entries_last h =
-        let k : i ≡ n = omega arith in
-        let p : Puts d₀ at (entries_from r 0 n) next d = rw k at e.written in
-        record { end = rw (length_entries r 0 n) at p.end; buffer = p.buffer }
+-- what stands before the records of n objects
+abbrev pub before_records : ℕ → List ℕ
+before_records n = file_head n ++ entries_from SavedBlocks 0 n ++ u32s (replicate 6 0)
 
--- ---- writing the whole blob, part after part
+module _ (n : ℕ) (d₀ : List ℕ) where
+  pub head_written : {d : List ℕ} → 144 + 48 * n ≤ length d₀ → (ws : List ℕ) → u32s ws ≡ file_head n → d ≡ put d₀ 0 (u32s ws) → Entering SavedBlocks n (file_head n) d₀ d 0
+  head_written room ws e p = entries_start SavedBlocks n (file_head n) d₀ (omega (arith, length_head n)) (rw e at p)
 
-next_part : (d : List ℕ) (i : ℕ) (w : List ℕ) {d' d'' x : List ℕ} {j k bytes : ℕ} → d' ≡ put d i w → PutsPart d' j bytes x k d'' → j ≡ i + length w → j + length x ≤ length d
-    → d'' ≡ put d i (w ++ x)
-next_part d i w {x = x} {j = j} p q e room = q.buffer ∙ ap (λ (b : List ℕ). put b j x) p ∙ put_more d i w x j e room
+  length_blocks : length (file_head n ++ entries_from SavedBlocks 0 n) ≡ 96 + 16 * n
+  length_blocks = omega (arith, length_head n, length_entries SavedBlocks 0 n, length-append (file_head n) (entries_from SavedBlocks 0 n))
 
-pub region_put : (r : Region) (n : ℕ) (after : List ℕ) {d d' d'' : List ℕ} {at j k : ℕ} → at + entry_size r * n + 4 * length after ≤ length d
-    → PutsPart d at (entry_size r * n) (entries_from r 0 n) j d' → PutsPart d' j (4 * length after) (u32s after) k d''
-    → PutsPart d at (entry_size r * n + 4 * length after) (entries_from r 0 n ++ u32s after) k d''
-region_put r n after {d} {at = at} room p q =
-    let l = length_entries r 0 n in
-    let m = length_u32s after in
-    record {
-      end = omega (arith, p.end, q.end);
-      buffer = next_part d at (entries_from r 0 n) p.buffer q (omega (arith, p.end)) (omega (arith, p.end));
-    }
+  length_before : length (before_records n) ≡ 120 + 16 * n
+  length_before = omega (arith, length_blocks, length-append (file_head n ++ entries_from SavedBlocks 0 n) (u32s (replicate 6 0)), length_u32s (replicate 6 0))
 
-ruleset part_lengths = (length-append, length_head, length_entries, length_u32s)
+  pub block_written : {d d' : List ℕ} {i : ℕ} → Entering SavedBlocks n (file_head n) d₀ d i → i < n → d' ≡ put d (96 + 16 * i) (u32s (entry SavedBlocks i))
+      → Entering SavedBlocks n (file_head n) d₀ d' (i + 1)
+  block_written m h p = entries_turn SavedBlocks n (file_head n) d₀ m h (omega (arith, length_head n)) p
 
-pub file_written : (n : ℕ) (head : List ℕ) {d₀ d₁ d₂ d₃ d₄ : List ℕ} {i₁ i₂ i₃ i₄ : ℕ} → u32s head ≡ file_head n → 144 + 48 * n ≤ length d₀
-    → PutsPart d₀ 0 (4 * length head) (u32s head) i₁ d₁
-    → PutsPart d₁ 96 (16 * n + 24) (entries_from SavedBlocks 0 n ++ u32s (replicate 6 0)) i₂ d₂
-    → PutsPart d₂ i₂ (24 * n + 16) (entries_from Objects 0 n ++ u32s (replicate 4 0)) i₃ d₃
-    → PutsPart d₃ i₃ (8 * n + 8) (entries_from Dependents 0 n ++ u32s (replicate 2 0)) i₄ d₄
-    → d₄ ≡ put d₀ 0 (file_wrapper n)
-file_written n head {d₀} {d₁} e room a b c d =
-    let lh = length_head n in
-    let p₁ : d₁ ≡ put d₀ 0 (file_head n) = rw e at a.buffer in
-    let p₂ = next_part d₀ 0 (file_head n) p₁ b (omega arith) (simp part_lengths (omega arith)) in
-    let p₃ = next_part d₀ 0 _ p₂ c (simp part_lengths (omega (arith, b.end))) (simp part_lengths (omega (arith, b.end))) in
-    let p₄ = next_part d₀ 0 _ p₃ d (simp part_lengths (omega (arith, b.end, c.end))) (simp part_lengths (omega (arith, b.end, c.end))) in
-    rw file_wrapper_is (simp append_assoc at p₄)
+  pub zeros_written : {d d' : List ℕ} {i : ℕ} → 144 + 48 * n ≤ length d₀ → Entering SavedBlocks n (file_head n) d₀ d i → i ≡ n → d' ≡ put d (96 + 16 * n) (u32s (replicate 6 0))
+      → Entering Objects n (before_records n) d₀ d' 0
+  zeros_written {d} room m e p =
+      let w : d ≡ put d₀ 0 (file_head n ++ entries_from SavedBlocks 0 n) = rw e at m.written in
+      entries_start Objects n (before_records n) d₀ (omega (arith, length_before))
+      (put_then _ _ _ _ _ w p (omega (arith, length_blocks)) (omega (arith, length_u32s (replicate 6 0))))
+
+  pub record_written : {d d' : List ℕ} {i : ℕ} → Entering Objects n (before_records n) d₀ d i → i < n → d' ≡ put d (120 + 16 * n + 24 * i) (u32s (entry Objects i))
+      → Entering Objects n (before_records n) d₀ d' (i + 1)
+  record_written m h p = entries_turn Objects n (before_records n) d₀ m h (omega (arith, length_before)) p
+
+  pub file_written : {d w : List ℕ} {i : ℕ} → 144 + 48 * n ≤ length d₀ → Entering Objects n (before_records n) d₀ d i → i ≡ n
+      → w ≡ replicate (length (take (144 + 48 * n - (120 + 40 * n)) (drop (120 + 40 * n) d))) 0
+      → put_mid (120 + 40 * n) (144 + 48 * n - (120 + 40 * n)) d w ≡ put d₀ 0 (file_wrapper n)
+  file_written {d} {w} room m e f =
+      let front : List ℕ = before_records n ++ entries_from Objects 0 n in
+      let k : ℕ = 144 + 48 * n - (120 + 40 * n) in
+      let p : d ≡ put d₀ 0 front = rw e at m.written in
+      let l : length front ≡ 120 + 40 * n = omega (arith, length_before, length_entries Objects 0 n, length-append (before_records n) (entries_from Objects 0 n)) in
+      let s : length d ≡ length d₀ = ap length p ∙ length_put d₀ 0 front (omega arith) in
+      let z : length (take k (drop (120 + 40 * n) d)) ≡ 24 + 8 * n = omega (arith, length-take k (drop (120 + 40 * n) d), length-drop (120 + 40 * n) d) in
+      let g : w ≡ replicate (24 + 8 * n) 0 = f ∙ ap (λ (j : ℕ). replicate j 0) z in
+      let lw : length w ≡ 24 + 8 * n = ap length g ∙ length-replicate (24 + 8 * n) 0 in
+      let whole : front ++ w ≡ file_wrapper n = rw (g, file_wrapper_is n) (simp append_assoc) in
+      put_then _ _ _ _ _ p (mid_put d (120 + 40 * n) k w (omega arith) (omega arith)) (omega arith) (omega arith) ∙ ap (put d₀ 0) whole
 
 -- ---- building, for an output of `room` bytes
 
@@ -280,20 +267,23 @@ module _ (n room : ℕ) where
 pub accepts_most : (room : ℕ) → 16777200 ≤ room → build_metadata 349522 room ≡ ok (file_wrapper 349522)
 accepts_most room h = builds 349522 room (omega arith) (omega arith)
 
--- what the call returns and leaves, where m is n as an index
-pub many_refused : {n : ℕ} {d : List ℕ} → 349522 < n → BuildsMetadata n d (length_reply.Error (LimitExceeded n)) d
+-- what the call returns and leaves
+pub many_refused : {n : ℕ} {d : List ℕ} → 349522 < n → BuildsMetadata n d (Err (LimitExceeded n)) d
 many_refused {n} {d} h = record { reply = rw (build_many n (length d) h); buffer = rw (build_many n (length d) h) }
 
-module _ {n m : ℕ} {d : List ℕ} (h : n ≤ 349522) (e : m ≡ n) where
-  pub short_refused : length d < 144 + 48 * m → BuildsMetadata n d (length_reply.Error (OutputTooShort (144 + 48 * m))) d
-  short_refused k =
-      let b = build_short n (length d) h (omega arith) in
-      record { reply = rw (b, e); buffer = rw b }
+module _ {n need : ℕ} (h : n ≤ 349522) (s : need ≡ length (file_wrapper n)) where
+  size : need ≡ 144 + 48 * n
+  size = s ∙ length_file_wrapper n
 
-  pub built : {d' : List ℕ} → 144 + 48 * m ≤ length d → d' ≡ put d 0 (file_wrapper m) → BuildsMetadata n d (length_reply.Length (144 + 48 * m)) d'
-  built {d'} k w =
-      let b = builds n (length d) h (omega arith) in
+  pub short_refused : {d : List ℕ} → length d < need → BuildsMetadata n d (Err (OutputTooShort need)) d
+  short_refused {d} k =
+      let b = build_short n (length d) h (omega (arith, size)) in
+      record { reply = rw (b, size); buffer = rw b }
+
+  pub built : {m k : ℕ} {d d' : List ℕ} → need ≤ length d → m ≡ n → k ≡ need → d' ≡ put d 0 (file_wrapper m) → BuildsMetadata n d (Ok k) d'
+  built {m} {k} {d} f e g w =
+      let b = builds n (length d) h (omega (arith, size)) in
       record {
-        reply = rw (b, e) (ap ok (sym (length_file_wrapper n)));
+        reply = rw b (ap ok (g ∙ s));
         buffer = rw b (w ∙ ap (λ (k : ℕ). put d 0 (file_wrapper k)) e ∙ put_front d (file_wrapper n));
       }

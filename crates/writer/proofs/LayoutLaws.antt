@@ -8,10 +8,8 @@ use native.Mathlib.Omega.{arith}
 use lib.ListN.{length, get_or, take, drop, length-append, length-map}
 use lib.Seq.{slice, take_at, drop_at, take-nil, drop-nil, take-take}
 use Rattle.writer.specs.Array.{Array, no_array, payload, payloads, payload_spans}
-use Rattle.writer.specs.FileWrapper.{u32_bytes, u32s, name_heap, class_entries, entry, zero_entry, entries_from, region, regions, offsets_from, file_wrapper}
+use Rattle.writer.specs.FileWrapper.{Region, SavedBlocks, Objects, u32_bytes, u32s, name_heap, class_entries, entry, zero_entry, entries_from, region, regions, offsets_from, file_wrapper}
 use Rattle.writer.specs.Spans.{offset_at, end_at, string_at, joined, spans_from}
-use Rattle.writer.specs.declared.file_wrapper.Region.{Region}
-use Rattle.writer.specs.declared.file_wrapper.Region.TheVariants.{SavedBlocks, Objects}
 use Rattle.writer.proofs.FileWrapperLaws.{length_u32s, entry_size, length_entries, entries_split, offsets_are, length_offsets}
 
 part_at : (p q r : List ℕ) (a e : ℕ) → length p ≡ a → a + length q ≡ e → slice a e (p ++ (q ++ r)) ≡ q

@@ -1,107 +1,92 @@
 -- Check 30 for one string: the outcomes of `measure_string`, and what a string that passed is.
 -- Assumes nothing.
+use Rattle.std.specs.Option.{unwrap_or}
 use Prim.Native.Nat.{ℕ, zero, suc, ◌+◌, ◌-◌, ◌≤◌, ◌<◌}
 use mathlib.Core.Path.{◌≡◌, refl, sym, ap, ◌∙◌}
 use mathlib.Core.Bool.{true}
 use mathlib.Core.List.{List, [], ◌∷◌, flat_map}
-use mathlib.Core.Option
-use mathlib.Core.Option.{Option, some, none, map}
+use Rattle.std.specs.Prelude.{Option, Some, None, Result as Reply}
+use Rattle.std.specs.Option.{option_map}
 use native.Mathlib.Numerals.{add-one}
 use native.Mathlib.Omega.{arith}
 use borrow.Author.Tests.{le-leb, lt-leb, leb-true}
 use lib.Dec.{leb}
 use lib.ListN.{length, get_or, take, drop, length-take, length-append}
-use Rattle.text.specs.Replies.{count_units, CountsUnits}
+use Rattle.std.specs.Result.{result_ok}
+use Rattle.text.specs.Replies.{CountsUnits}
 use Rattle.text.specs.Result.{ok, error, check, ◌>>◌}
 use Rattle.text.specs.Unicode.{utf16s}
 use Rattle.text.specs.Utf8.{units_of, scalars8}
-use Rattle.text.specs.declared.utf8.UnitCount.{UnitCount}
-use Rattle.text.specs.declared.utf8.UnitCount.TheVariants as count
+use Rattle.text.specs.declared.utf8.Utf8Error.{Utf8Error}
 use Rattle.text.proofs.ResultLaws.{check_passed}
 use Rattle.text.proofs.ScalarLaws.{units_le}
-use Rattle.text.proofs.TestLaws.{not_both}
+use Rattle.text.proofs.TestLaws.{not_both, either}
 use Rattle.text.proofs.Utf8Laws.{map_is, not_some, spelled}
 use Rattle.writer.specs.Array.{string_units, all_units}
 use Rattle.writer.specs.Spans.{offset_at, length_at, end_at, string_at, strings_from, is_some, check_string}
 use Rattle.writer.specs.Stages.Payload.{MeasuresString}
-use Rattle.writer.specs.declared.checks.StringMeasure.TheVariants as string
 
 -- ---- a value that is there
 
-pub some_is : (m : Option (List ℕ)) → is_some m ≡ true → m ≡ some (Option.get_or m [])
-some_is (some us) e = refl
-some_is none e = not_both e refl
+pub some_is : (m : Option (List ℕ)) → is_some m ≡ true → m ≡ Some (unwrap_or m [])
+some_is (Some us) e = refl
+some_is None e = not_both e refl
 
-pub counted_some : (m : Option (List ℕ)) {u : ℕ} → some u ≡ map length m → (is_some m ≡ true) × (u ≡ length (Option.get_or m []))
-counted_some (some us) e = (refl, cc)
-counted_some none e = not_some (sym e)
+pub counted_some : (m : Option (List ℕ)) {u : ℕ} → Some u ≡ option_map length m → (is_some m ≡ true) × (u ≡ length (unwrap_or m []))
+counted_some (Some us) e = (refl, cc)
+counted_some None e = not_some (sym e)
 
-pub counted_none : (m : Option (List ℕ)) → none ≡ map length m → m ≡ none
-counted_none (some us) e = not_some e
-counted_none none e = refl
+pub counted_none : (m : Option (List ℕ)) → None ≡ option_map length m → m ≡ None
+counted_none (Some us) e = not_some e
+counted_none None e = refl
 
 -- ---- the outcomes
 
-module _ (text spans : List ℕ) (i end : ℕ) where
-  bad : check_string text spans i end ≡ error (record { number = 30; place = i }) → MeasuresString text spans i end string.Bad
-  bad e = record { checked = sym e; units = tt }
+module _ (text spans : List ℕ) (i end : ℕ) {offset len : ℕ} (o : offset ≡ offset_at spans i) (l : len ≡ length_at spans i) where
+  refused : check_string text spans i end ≡ error (record { number = 30; place = i }) → MeasuresString text spans i end None
+  refused e = record { checked = sym e; units = tt }
 
-  module _ {offset : ℕ} (o : offset ≡ offset_at spans i) where
-    pub measured_before : offset < end → MeasuresString text spans i end string.Bad
-    unfolding check_string
-    measured_before h =
-        let a : offset_at spans i < end = omega arith in
-        bad (simp lt-leb)
+  pub measured_past : length text < offset + len → MeasuresString text spans i end None
+  unfolding check_string
+  measured_past h =
+      let z : length text < end_at spans i = omega arith in
+      refused (either (leb end (offset_at spans i)) (λ t. rw (t, lt-leb (end_at spans i) (length text) z)) (λ t. rw t))
 
-    module _ (b : end ≤ offset) where
-      pub measured_past : length text < offset → MeasuresString text spans i end string.Bad
+  pub measured_before : offset < end → MeasuresString text spans i end None
+  unfolding check_string
+  measured_before h =
+      let a : offset_at spans i < end = omega arith in
+      refused (simp lt-leb)
+
+  module _ {last : ℕ} (e : last ≡ offset + len) where
+    module _ (b : end ≤ offset) (f : last ≤ length text) {part : List ℕ} (k : part ≡ take (last - offset) (drop offset text)) {x : Reply ℕ Utf8Error} (c : CountsUnits part x) where
+      counted : result_ok x ≡ option_map length (units_of (string_at text spans i))
+      counted =
+          let z : last - offset ≡ length_at spans i = omega arith in
+          rw (k, z, o) at c.units
+
+      pub measured_ill_formed : None ≡ result_ok x → MeasuresString text spans i end None
       unfolding check_string
-      measured_past h =
+      measured_ill_formed g =
           let a : end ≤ offset_at spans i = omega arith in
-          let z : length text < end_at spans i = omega arith in
-          bad (simp (le-leb, lt-leb))
+          let z : end_at spans i ≤ length text = omega arith in
+          let n : units_of (string_at text spans i) ≡ None = counted_none (units_of (string_at text spans i)) (g ∙ counted) in
+          refused (simp (le-leb, n))
 
-      module _ {len : ℕ} (l : len ≡ length_at spans i) (f : offset ≤ length text) where
-        pub measured_long : length text - offset < len → MeasuresString text spans i end string.Bad
-        unfolding check_string
-        measured_long h =
-            let a : end ≤ offset_at spans i = omega arith in
-            let z : length text < end_at spans i = omega arith in
-            bad (simp (le-leb, lt-leb))
-
-        module _ (h : len ≤ length text - offset) {x : UnitCount} (c : CountsUnits (take (offset + len - offset) (drop offset text)) x) where
-          part_is : take (offset + len - offset) (drop offset text) ≡ string_at text spans i
-          part_is =
-              let z : offset + len - offset ≡ length_at spans i = omega arith in
-              rw (z, o)
-
-          counted : count_units x ≡ map length (units_of (string_at text spans i))
-          counted = rw part_is at c.units
-
-          pub measured_ill_formed : {p : ℕ} → x ≡ count.IllFormed p → MeasuresString text spans i end string.Bad
-          unfolding check_string
-          measured_ill_formed g =
-              let a : end ≤ offset_at spans i = omega arith in
-              let z : end_at spans i ≤ length text = omega arith in
-              let n : units_of (string_at text spans i) ≡ none = counted_none (units_of (string_at text spans i)) (sym (ap count_units g) ∙ counted) in
-              bad (simp (le-leb, n))
-
-          pub measured_units : {u : ℕ} → x ≡ count.Units u → MeasuresString text spans i end (string.Units (offset + len) u)
-          unfolding check_string
-          measured_units g =
-              let a : end ≤ offset_at spans i = omega arith in
-              let z : end_at spans i ≤ length text = omega arith in
-              let s = counted_some (units_of (string_at text spans i)) (sym (ap count_units g) ∙ counted) in
-              record { checked = simp (le-leb, s.0, o, l); units = s.1 }
-
-pub ruleset string_outcomes = (measured_before, measured_past, measured_long, measured_ill_formed, measured_units)
+      pub measured_units : {u : ℕ} → Some u ≡ result_ok x → MeasuresString text spans i end (Some (record { end = last; units = u }))
+      unfolding check_string
+      measured_units g =
+          let a : end ≤ offset_at spans i = omega arith in
+          let z : end_at spans i ≤ length text = omega arith in
+          let s = counted_some (units_of (string_at text spans i)) (g ∙ counted) in
+          record { checked = simp (le-leb, s.0, e, o, l); units = s.1 }
 
 -- ---- a string that passed
 
 pub record Passed (text spans : List ℕ) (i end next : ℕ) : Type 0 where
   pub order : end ≤ offset_at spans i
   pub inside : end_at spans i ≤ length text
-  pub well_formed : units_of (string_at text spans i) ≡ some (string_units (string_at text spans i))
+  pub well_formed : units_of (string_at text spans i) ≡ Some (string_units (string_at text spans i))
   pub next_is : next ≡ end_at spans i
 
 pub string_passed : (text spans : List ℕ) (i end : ℕ) {next : ℕ} → check_string text spans i end ≡ ok next → Passed text spans i end next

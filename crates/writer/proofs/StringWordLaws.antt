@@ -4,19 +4,20 @@ use mathlib.Core.Path.{◌≡◌, refl, ◌∙◌, sym, ap, subst}
 use mathlib.Core.List.{List, [], ◌∷◌, ◌++◌, append_assoc, append-nil, map-append, flat_map}
 use Prim.Native.Nat.{ℕ, zero, suc, ◌+◌, ◌-◌, ◌/◌, ◌≤◌, ◌<◌}
 use native.Mathlib.Omega.{arith}
-use lib.ListN.{length, set, take, drop, length-append, length-map, length-set}
+use lib.ListN.{length, set, take, drop, length-append, length-map, length-drop, drop_of_length-le}
+use lib.Seq.{length-take-le, drop-drop}
 use Rattle.text.specs.Buffer.{put}
 use Rattle.text.specs.Unicode.{Below}
-use Rattle.text.proofs.BufferLaws.{put_none, put_one, put_more, length_put}
+use Rattle.text.proofs.BufferLaws.{put_none, put_one, put_front}
 use Rattle.text.proofs.ScalarLaws.{below_append}
 use Rattle.text.proofs.Utf16Laws.{units_below}
 use Rattle.writer.specs.Array.{string_units, unit_counts, all_units, string_words}
-use Rattle.writer.specs.declared.packing.Carry.{Carry}
-use Rattle.writer.specs.Stages.Packing.{Packer, padding, Pushed, Packable}
+use Rattle.writer.specs.declared.packing.Packer.{Packer}
+use Rattle.writer.specs.Stages.Packing.{State, state_of, fresh, pushes, padding, Pushed, Packable, Finished}
 use Rattle.writer.specs.Spans.{offset_at, length_at, string_at, strings_from, strings_in}
-use Rattle.writer.specs.Stages.Payload.{StringsFit, StringFits}
+use Rattle.writer.specs.Stages.Payload.{StringsFit, HasString}
 use Rattle.writer.specs.Words.{packed}
-use Rattle.writer.proofs.packing.Laws.{pushed_none, pushed_count, pushed_length, pushed_then, pushed_set, packs_all}
+use Rattle.writer.proofs.packing.Laws.{pushed_count, pushes_count, pushes_length, pushes_append, packs_all}
 use Rattle.writer.proofs.WordLaws.{length_packed}
 
 -- the lengths of the strings, and a word for each four units
@@ -37,16 +38,12 @@ all_units_append [] rs = refl
 all_units_append (s ∷ ss) rs =
     ap (λ (us : List ℕ). string_units s ++ us) (all_units_append ss rs) ∙ sym (append_assoc (string_units s) (all_units ss) (all_units rs))
 
--- ---- the part of the text that `push_string` pushes
+-- ---- the part of the text that is string i
 
-module _ (text spans : List ℕ) (i : ℕ) {a b : ℕ} (start : a ≡ offset_at spans i) (size : b ≡ length_at spans i) where
-  part_is : take (a + b - a) (drop a text) ≡ string_at text spans i
-  part_is =
-      let n : a + b - a ≡ b = omega arith in
-      rw (n, start, size)
-
-  pub part_fits : {first count room : ℕ} → StringFits text spans i first count room → Packable (take (a + b - a) (drop a text)) first count room
-  part_fits f = rw part_is (record { well_formed = f.well_formed; fits = f.fits })
+pub part_is : (text spans : List ℕ) (i : ℕ) {a b : ℕ} → a ≡ offset_at spans i → b ≡ length_at spans i → take (a + b - a) (drop a text) ≡ string_at text spans i
+part_is text spans i {a} {b} start size =
+    let n : a + b - a ≡ b = omega arith in
+    rw (n, start, size)
 
 -- ---- the strings before string i
 
@@ -103,24 +100,26 @@ module _ (text spans : List ℕ) where
 
 -- ---- the loop of `put_strings`
 
--- what is carried when no unit is pushed
-abbrev pub nothing : Carry
-nothing = record { word = 0; count = 0 }
+-- the lengths of the strings before string i are stored in the first words, and their units pushed into the others
+pub record Stringing (text spans words counted : List ℕ) (p : Packer) (i : ℕ) : Type 0 where
+  pub stored : counted ≡ put (take (length spans / 2) words) 0 (unit_counts (strings_from text spans 0 i))
+  pub pushed : state_of p ≡ pushes (fresh (drop (length spans / 2) words)) (all_units (strings_from text spans 0 i))
 
--- the lengths of the strings before string i are stored, and their units pushed
-pub record Stringing (text spans d₀ : List ℕ) (base n first : ℕ) (d : List ℕ) (c : Carry) (i : ℕ) : Type 0 where
-  pub bound : i ≤ n
-  pub fits : base + n ≤ length d₀
-  pub same : length d ≡ length d₀
-  pub count : c.count ≡ length (all_units (strings_from text spans 0 i))
-  pub pushed : Pushed first (put d₀ base (unit_counts (strings_from text spans 0 i))) nothing (all_units (strings_from text spans 0 i)) d c
-
-module _ (text spans d₀ : List ℕ) (base : ℕ) (r : StringsFit text spans base (length d₀)) where
+module _ (text spans words : List ℕ) (r : StringsFit text spans (length words)) where
   abbrev n : ℕ
   n = length spans / 2
 
-  room : base + n + (length (units text spans n) + 3) / 4 ≤ length d₀
+  room : n + (length (units text spans n) + 3) / 4 ≤ length words
   room = omega (arith, r.fits, length_string_words (strings_in text spans), length_strings text spans 0 n)
+
+  length_first : length (take n words) ≡ n
+  length_first = length-take-le n words (omega (arith, room))
+
+  length_others : length (drop n words) ≡ length words - n
+  length_others = length-drop n words
+
+  pub counts_fit : n ≤ length words
+  counts_fit = omega (arith, room)
 
   units_below_n : (i : ℕ) → i ≤ n → Below 65536 (units text spans i)
   units_below_n zero h = rw (units_none text spans) tt
@@ -136,52 +135,60 @@ module _ (text spans d₀ : List ℕ) (base : ℕ) (r : StringsFit text spans ba
       let e : i + (n - i) ≡ n = omega arith in
       subst (λ (k : ℕ). length (units text spans i) ≤ length (units text spans k)) e (units_grow text spans i (n - i))
 
-  pub first_fits : base + n ≤ length d₀
-  first_fits = omega (arith, room)
+  pub string_start : (p : Packer) → p.words.now ≡ drop n words → p.word ≡ 0 → p.count ≡ 0 → Stringing text spans words (take n words) p 0
+  unfolding strings_from flat_map pushes
+  string_start p e f g = record { stored = sym (put_none (take n words) 0); pushed = rw (e, f, g) }
 
-  pub string_start : Stringing text spans d₀ base n (base + n) d₀ nothing 0
-  unfolding strings_from flat_map
-  string_start = record { bound = omega arith; fits = first_fits; same = refl; count = refl; pushed = rw (put_none d₀ base) pushed_none }
+  module _ {counted : List ℕ} {p : Packer} {i : ℕ} (m : Stringing text spans words counted p i) where
+    count_is : p.count ≡ length (units text spans i)
+    count_is = ap (λ (s : State). s.count) m.pushed ∙ pushes_count (fresh (drop n words)) (units text spans i) ∙ omega arith
 
-  module _ {d : List ℕ} {c : Carry} {i : ℕ} (m : Stringing text spans d₀ base n (base + n) d c i) where
-    pub string_fits : i < n → StringFits text spans i (base + n) c.count (length d)
+    same_length : length p.words.now ≡ length words - n
+    same_length = ap (λ (s : State). length s.words) m.pushed ∙ pushes_length (fresh (drop n words)) (units text spans i) ∙ length_others
+
+    pub string_there : i < n → HasString text spans i
+    string_there h = record { there = omega arith; inside = r.inside i h }
+
+    pub string_fits : i < n → Packable (string_at text spans i) p
     string_fits h = record {
-      there = omega arith;
-      inside = r.inside i h;
       well_formed = r.well_formed i h;
-      fits = omega (arith, room, m.same, m.count, length_more text spans i, units_most (i + 1) (omega arith));
+      fits = omega (arith, room, same_length, count_is, length_more text spans i, units_most (i + 1) (omega arith));
     }
 
-    pub string_turn : {d' : List ℕ} {c' : Carry} → i < n → Pushed (base + n) d c (string_units (string_at text spans i)) d' c'
-        → Stringing text spans d₀ base n (base + n) (set d' (base + i) (c'.count - c.count)) c' (i + 1)
-    string_turn {d'} {c'} h p =
+    pub string_turn : {p' : Packer} → i < n → Pushed p (string_units (string_at text spans i)) p' → Stringing text spans words (set counted i (p'.count - p.count)) p' (i + 1)
+    string_turn {p'} h q =
         let us : List ℕ = string_units (string_at text spans i) in
-        let k : c'.count - c.count ≡ length us = omega (arith, pushed_count p) in
-        let l : base + i ≡ base + length (counts text spans i) = omega (arith, length_counts text spans i) in
-        let e : set (put d₀ base (counts text spans i)) (base + i) (length us) ≡ put d₀ base (counts text spans (i + 1)) =
-        rw l (put_one d₀ base (counts text spans i) (length us) (omega (arith, length_counts text spans i, room))) ∙ ap (put d₀ base) (sym (counts_more text spans i)) in
-        let q = pushed_set (pushed_then m.pushed p) (base + i) (length us) (omega arith) in
+        let k : p'.count - p.count ≡ length us = omega (arith, pushed_count q) in
+        let l : i ≡ 0 + length (counts text spans i) = omega (arith, length_counts text spans i) in
+        let e : set (put (take n words) 0 (counts text spans i)) (0 + length (counts text spans i)) (length us) ≡ put (take n words) 0 (counts text spans i ++ length us ∷ []) =
+        put_one (take n words) 0 (counts text spans i) (length us) (omega (arith, length_counts text spans i, length_first)) in
         record {
-          bound = omega arith;
-          fits = m.fits;
-          same = length-set d' (base + i) (c'.count - c.count) ∙ pushed_length p ∙ m.same;
-          count = omega (arith, pushed_count p, m.count, length_more text spans i);
-          pushed = rw (k, ← e, units_more text spans i) q;
+          stored = ap (λ (d : List ℕ). set d i (p'.count - p.count)) m.stored ∙ rw (k, counts_more text spans i) (rw (sym l) at e);
+          pushed =
+              q.is
+              ∙ ap (λ (s : State). pushes s us) m.pushed
+              ∙ pushes_append (fresh (drop n words)) (units text spans i) us
+              ∙ ap (pushes (fresh (drop n words))) (sym (units_more text spans i));
         }
 
-    pub finish_room : base + n + (c.count + 3) / 4 ≤ length d
-    finish_room = omega (arith, room, m.same, m.count, m.bound, units_most i m.bound)
+    pub finish_room : i ≤ n → (p.count + 3) / 4 ≤ length p.words.now
+    finish_room h = omega (arith, room, same_length, count_is, units_most i h)
 
-    pub string_last : {d' : List ℕ} {c' : Carry} → n ≤ i → Pushed (base + n) d c (padding c.count) d' c'
-        → d' ≡ put d₀ base (string_words (strings_in text spans))
+    pub string_last : {p' : Packer} {others : List ℕ} → i ≡ n → Finished p p' → others ≡ p'.words.now → counted ++ others ≡ put words 0 (string_words (strings_in text spans))
     unfolding string_words
-    string_last {d'} {c'} h p =
-        let e : i ≡ n = omega (arith, m.bound) in
+    string_last {p'} {others} e q f =
         let all : List ℕ = units text spans n in
-        let stored : List ℕ = put d₀ base (counts text spans n) in
-        let l : length stored ≡ length d₀ = length_put d₀ base (counts text spans n) (omega (arith, length_counts text spans n, room)) in
-        let q : Pushed (base + n) stored nothing (all ++ padding (length all)) d' c' =
-        rw (m.count, e) at (pushed_then m.pushed p) in
-        ap (λ (x : Packer). x.words) q.is
-        ∙ packs_all (base + n) stored all (units_below_n n (omega arith)) (omega (arith, l, length_packed all, room))
-        ∙ put_more d₀ base (counts text spans n) (packed all) (base + n) (omega (arith, length_counts text spans n)) (omega (arith, length_packed all, room))
+        let cs : List ℕ = counts text spans n in
+        let rest : List ℕ = drop n words in
+        let l : length cs ≡ n = length_counts text spans n in
+        let none : drop (length cs) (take n words) ≡ [] = drop_of_length-le (take n words) (omega (arith, length_first)) in
+        let a : counted ≡ cs = rw e at m.stored ∙ put_front (take n words) cs ∙ ap (λ (x : List ℕ). cs ++ x) none ∙ append-nil cs in
+        let c : p.count ≡ length all = rw e at count_is in
+        let d : pushes (state_of p) (padding p.count) ≡ pushes (fresh rest) (all ++ padding (length all)) =
+        ap (λ (s : State). pushes s (padding p.count)) (rw e at m.pushed) ∙ pushes_append (fresh rest) all (padding p.count) ∙ rw c in
+        let b : others ≡ packed all ++ drop (length (packed all)) rest =
+        f ∙ q.is ∙ ap (λ (s : State). s.words) d
+        ∙ packs_all rest all (units_below_n n (omega arith)) (omega (arith, length_others, length_packed all, room))
+        ∙ put_front rest (packed all) in
+        let k : length (cs ++ packed all) ≡ n + length (packed all) = omega (arith, length-append cs (packed all)) in
+        rw (a, b, put_front words (cs ++ packed all), k, drop-drop (length (packed all)) n words) (sym (append_assoc cs (packed all) (drop (n + length (packed all)) words)))

@@ -1,13 +1,11 @@
 -- An array of strings, its saveobj payload, and the checks of writing one.
 -- Assumes nothing.
-use Rattle.std.specs.Prelude.{ℕ, ◌≡◌, Bool, false, leb, eqb, length}
+use Rattle.std.specs.Prelude.{ℕ, ◌≡◌, Bool, false, leb, eqb, length, Ok, Err, Result as Reply}
 use mathlib.Core.List.{List, [], ◌∷◌, ◌++◌, map, flat_map}
-use Rattle.std.proofs.Math.Option.{get_or}
+use Rattle.std.specs.Option.{unwrap_or}
 use Rattle.text.specs.Product.{product_of}
 use Rattle.text.specs.Result.{Result, ok, check, check_output, ◌>>◌, ◌>>=◌}
 use Rattle.text.specs.Utf8.{units_of}
-use Rattle.text.specs.declared.convert.Product.{Product}
-use Rattle.text.specs.declared.convert.Product.TheVariants.{Of, OverflowAt}
 use Rattle.writer.specs.Spans.{joined, spans_from, check_strings}
 use Rattle.writer.specs.Words.{packed}
 
@@ -22,7 +20,7 @@ no_array = record { dims = []; strings = [] }
 
 -- the code units of a well-formed string
 abbrev pub string_units : List ℕ → List ℕ
-string_units s = get_or (units_of s) []
+string_units s = unwrap_or (units_of s) []
 
 -- "lengths in code units"
 abbrev pub unit_counts : List (List ℕ) → List ℕ
@@ -41,9 +39,9 @@ unfoldable pub payload : Array → List ℕ
 payload a = 1 ∷ length a.dims ∷ (a.dims ++ string_words a.strings)
 
 -- a product that is n
-abbrev pub is_product : ℕ → Product → Bool
-is_product n (Of p) = eqb p n
-is_product n (OverflowAt i) = false
+abbrev pub is_product : ℕ → Reply ℕ ℕ → Bool
+is_product n (Ok p) = eqb p n
+is_product n (Err i) = false
 
 -- "Does the product of the dimensions stay below 2^64 at each step and equal the number of strings?"
 unfoldable pub is_shape : List ℕ → ℕ → Bool

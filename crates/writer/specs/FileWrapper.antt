@@ -4,8 +4,6 @@ use Rattle.std.specs.Prelude.{ℕ, zero, suc, ◌+◌, ◌/◌, ◌%◌, Bool, �
 use mathlib.Core.List.{List, [], ◌∷◌, ◌++◌, flat_map}
 use Rattle.text.specs.Buffer.{same}
 use Rattle.text.specs.Result.{Result, ok, check, check_output, ◌>>◌}
-use Rattle.writer.specs.declared.file_wrapper.Region.{Region}
-use Rattle.writer.specs.declared.file_wrapper.Region.TheVariants.{SavedBlocks, Objects, Dependents}
 
 -- "Integers are little-endian": a 32-bit word
 abbrev pub u32_bytes : ℕ → List ℕ
@@ -22,6 +20,12 @@ name_heap = 0x61 ∷ 0x6E ∷ 0x79 ∷ 0 ∷ 0x73 ∷ 0x74 ∷ 0x72 ∷ 0x69 ∷
 -- class 0, and class 1: no namespace, name 2
 abbrev pub class_entries : List ℕ
 class_entries = u32s (0 ∷ 0 ∷ 0 ∷ 0 ∷ 0 ∷ 2 ∷ 0 ∷ 0 ∷ [])
+
+-- the regions that have an entry for each object
+pub data Region : Type 0 where
+  SavedBlocks : Region
+  Objects : Region
+  Dependents : Region
 
 -- the words of object i's entry, from 0: its saved block, one triple (name 1, heap, i); its record, class 1, saved id i + 1, dependency id
 -- i + 1; its empty block of dependents

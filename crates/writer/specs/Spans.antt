@@ -1,8 +1,8 @@
 -- Strings as parts of a text, by spans: document 01's house form, pairs of offset and length.
 -- Assumes nothing.
-use Rattle.std.specs.Prelude.{ℕ, zero, suc, ◌+◌, ◌*◌, ◌/◌, ◌%◌, Bool, true, false, leb, eqb, length, get_or, take, drop}
+use Rattle.std.specs.Prelude.{ℕ, zero, suc, ◌+◌, ◌*◌, ◌/◌, ◌%◌, leb, eqb, length, get_or, take, drop}
 use mathlib.Core.List.{List, [], ◌∷◌, flat_map}
-use Rattle.std.proofs.Math.Option.{Option, some, none}
+pub use Rattle.std.specs.Option.{is_some}
 use Rattle.text.specs.Result.{Result, ok, check, fold_range, ◌>>◌}
 use Rattle.text.specs.Utf8.{units_of}
 
@@ -39,11 +39,6 @@ joined strings = flat_map (λ s. s) strings
 unfoldable pub spans_from : ℕ → List (List ℕ) → List ℕ
 spans_from o [] = []
 spans_from o (s ∷ ss) = o ∷ length s ∷ spans_from (o + length s) ss
-
--- there is a value
-abbrev pub is_some : {A : Type 0} → Option A → Bool
-is_some (some a) = true
-is_some none = false
 
 -- 30 for string i, where the span before it ends at `end`: "each at or after the end of the one before", "within the text", "and each string
 -- well-formed UTF-8"

@@ -1,80 +1,79 @@
 // Checks 30 and 31: the strings that spans cut from a text, and the shape of an array.
-ghost use Rattle.std.specs.Prelude.{◌≡◌, ◌+◌, ◌*◌, ◌≤◌, ◌<◌, length};
+ghost use Rattle.std.specs.Prelude.{◌≡◌, ◌+◌, ◌*◌, ◌/◌, ◌<◌, length};
+ghost use Rattle.text.specs.Replies.{outcome};
 ghost use Rattle.writer.specs.Array.{is_shape};
-ghost use Rattle.writer.specs.Stages.Payload.{MeasuresString, text_measure_of, measured_strings};
+ghost use Rattle.writer.specs.Stages.Payload.{HasString, MeasuresString, measured_strings};
+ghost use Rattle.writer.specs.Spans.{string_at};
 
-use text::convert::{Product, checked_product, to_usize};
-use text::utf8::{UnitCount, count_units};
+use text::convert::{checked_product, to_usize};
+use text::error::MatError;
+use text::utf8::count_units;
 
-// What measuring a string came to: the end of its span and its code units, or that check 30 does not hold of it.
-#[derive(Clone, Copy)]
-pub(crate) enum StringMeasure {
-    Units { end: usize, units: usize },
-    Bad,
+// The end of a string's span, and its code units.
+#[derive(Clone, Copy, Debug, PartialEq, Eq)]
+pub(crate) struct StringSize {
+    end: usize,
+    units: usize,
 }
 
-// Check 30 for string i, where the span before it ends at end.
-fn measure_string(text: &[u8], spans: &[u64], i: usize, end: usize) -> StringMeasure
-    requires { 2 * i + 1 < length spans.now }
-    ensures { MeasuresString text.now spans.now i end result }
-{
-    let offset = to_usize(spans[2 * i]);
-    let len = to_usize(spans[2 * i + 1]);
-    if offset < end {
-        return StringMeasure::Bad;
-    }
-    if text.len() < offset {
-        return StringMeasure::Bad;
-    }
-    if text.len() - offset < len {
-        return StringMeasure::Bad;
-    }
-    let last = offset + len;
-    match count_units(&text[offset..last]) {
-        UnitCount::Units(units) => StringMeasure::Units { end: last, units },
-        UnitCount::IllFormed(_) => StringMeasure::Bad,
-    }
+// Strings as parts of a text, by spans: pairs of offset and length.
+#[derive(Clone, Copy, Debug, PartialEq, Eq)]
+pub(crate) struct Strings<'a> {
+    pub(crate) text: &'a [u8],
+    pub(crate) spans: &'a [u64],
 }
 
-// What measuring all strings came to: their code units, or the first string that check 30 does not hold of.
-#[derive(Clone, Copy)]
-pub(crate) enum TextMeasure {
-    Units(usize),
-    Bad(usize),
-}
+impl<'a> Strings<'a> {
+    pub(crate) fn len(self) -> usize
+        ensures { result ≡ length self.entry.spans.now / 2 }
+    {
+        self.spans.len() / 2
+    }
 
-// Check 30 for n strings, in one walk over their bytes.
-pub(crate) fn measure_strings(text: &[u8], spans: &[u64], n: usize) -> TextMeasure
-    requires { 2 * n ≤ length spans.now }
-    ensures { text_measure_of result ≡ measured_strings text.now spans.now n }
-{
-    let mut units: usize = 0;
-    let mut end: usize = 0;
-    let mut i: usize = 0;
-    while i < n {
-        match measure_string(text, spans, i, end) {
-            StringMeasure::Units {
-                end: next,
-                units: more,
-            } => {
-                units += more;
-                end = next;
-            }
-            StringMeasure::Bad => {
-                return TextMeasure::Bad(i);
-            }
+    // String i.
+    pub(crate) fn get(self, i: usize) -> &'a [u8]
+        requires { HasString self.text.now self.spans.now i }
+        ensures { result.now ≡ string_at self.entry.text.now self.entry.spans.now i }
+    {
+        let start = to_usize(self.spans[2 * i]);
+        &self.text[start..start + to_usize(self.spans[2 * i + 1])]
+    }
+
+    // Check 30 for string i, where the span before it ends at end: its size where it holds.
+    fn measure_one(self, i: usize, end: usize) -> Option<StringSize>
+        requires { 2 * i + 1 < length self.spans.now }
+        ensures { MeasuresString self.entry.text.now self.entry.spans.now i end result }
+    {
+        let offset = to_usize(self.spans[2 * i]);
+        let last = offset.checked_add(to_usize(self.spans[2 * i + 1]))?;
+        if offset < end {
+            return None;
         }
-        i += 1;
+        let units = count_units(self.text.get(offset..last)?).ok()?;
+        Some(StringSize { end: last, units })
     }
-    TextMeasure::Units(units)
+
+    // Check 30 for all strings, in one walk over their bytes: their code units.
+    pub(crate) fn measure(self) -> Result<usize, MatError>
+        ensures { let s = self.entry in
+            outcome result ≡ measured_strings s.text.now s.spans.now (length s.spans.now / 2) }
+    {
+        let mut units: usize = 0;
+        let mut end: usize = 0;
+        for i in 0..self.len() {
+            let Some(size) = self.measure_one(i, end) else {
+                return Err(MatError::InvalidText(i as u64));
+            };
+            units += size.units;
+            end = size.end;
+        }
+        Ok(units)
+    }
 }
 
 // Check 31: whether the product of the dimensions stays below 2^64 at each step and is n.
 pub(crate) fn is_shape(dims: &[u64], n: usize) -> bool
     ensures { result ≡ is_shape dims.now n }
 {
-    match checked_product(dims) {
-        Product::Of(product) => product == n as u64,
-        Product::OverflowAt(_) => false,
-    }
+    checked_product(dims) == Ok(n as u64)
 }

@@ -1,11 +1,11 @@
 -- `history::put_reply` meets its contract.
 -- Assumes nothing.
-use Rattle.history.proofs.HistoryLaws.{replying}
-use borrow.Author.Rules.{rules}
+use Rattle.store.proofs.AppendLaws.{two_put}
 use Rattle.history.proofs.put_reply.Goals as goal
+use Rattle.history.proofs.put_reply.Goals.{in-Ok, in-Err}
 
-pub returns-in-Done : goal.returns-in-Done
-returns-in-Done c = search (replying, rules)
-
-pub returns-in-Error : goal.returns-in-Error
-returns-in-Error c = search (replying, rules)
+pub returns : goal.returns
+returns c = elim c.match-reply.branch [
+  | in-Ok w ↦ rw (w.number-is, w.in-Ok.is) (two_put _ _ _ _ c.requires)
+  | in-Err w ↦ rw (w.number-is, w.in-Err.is, w.failure-failure.ensures) (two_put _ _ _ _ c.requires)
+]

@@ -3,7 +3,7 @@
 use mathlib.Core.Path.{◌≡◌, refl, sym, ap, ◌∙◌}
 use mathlib.Core.Bool.{Bool, true, false, cond}
 use mathlib.Core.List.{List, [], ◌∷◌, ◌++◌, append_assoc, append-nil, flat_map}
-use Prim.Native.Nat.{ℕ, zero, suc, ◌+◌, ◌*◌, ◌-◌, ◌/◌, ◌%◌, ◌^◌, ◌≤◌, ◌<◌}
+use Prim.Native.Nat.{ℕ, zero, suc, ◌+◌, ◌*◌, ◌-◌, ◌/◌, ◌%◌, ◌^◌, ◌≤◌, ◌<◌, min}
 use native.Mathlib.Nat.{pow-suc}
 use native.Mathlib.Numerals.{add-one}
 use native.Mathlib.Omega.{arith}
@@ -19,12 +19,13 @@ use Rattle.text.proofs.ByteLaws.{stores}
 use Rattle.text.proofs.TestLaws.{cond_both}
 use Rattle.writer.proofs.FileWrapperLaws.{puts_then, puts_length}
 use Rattle.printing.specs.Lines.{is_plain, hex_digit, escape, escaped, digits, decimal, CountsDigits, numbered, line_text, WritesPart}
+use Rattle.std.specs.Result.{result_unwrap_or}
 use Rattle.reader.specs.Opening.{empty_wrapper}
-use Rattle.text.specs.Replies.{length_reply_of}
+use Rattle.text.specs.Replies.{outcome}
+use Rattle.text.proofs.ResultLaws.{same_value}
+use Rattle.std.specs.Prelude.{Ok, Err, Result as Reply}
 use Rattle.printing.specs.declared.lines.LinePart.{LinePart}
 use Rattle.printing.specs.declared.lines.LinePart.TheVariants as part
-use Rattle.text.specs.declared.reply.LengthReply.{LengthReply}
-use Rattle.text.specs.declared.reply.LengthReply.TheVariants as reply
 
 -- ---- a byte of a name
 
@@ -93,27 +94,21 @@ escaped_none = refl
 -- the bytes before i need n
 pub record Measuring (s : List ℕ) (n i : ℕ) : Type 0 where
   pub bound : i ≤ length s
-  pub fits : n < 2 ^ 64
-  pub size : n ≡ length (escaped (take i s))
+  pub size : n ≡ need_place (length (escaped (take i s)))
 
 module _ (s : List ℕ) where
   pub measure_start : Measuring s 0 0
-  measure_start = record { bound = omega arith; fits = omega arith; size = rw escaped_none }
+  measure_start = record { bound = omega arith; size = rw escaped_none }
 
   module _ {n i : ℕ} (m : Measuring s n i) where
-    module _ {k : ℕ} (h : i < length s) (e : k ≡ length (escape (get_or s i 0))) where
-      pub measure_turn : k ≤ 18446744073709551615 - n → Measuring s (n + k) (i + 1)
-      measure_turn l = record {
-        bound = omega arith;
-        fits = omega arith;
-        size = omega (arith, ap length (escaped_next s i h), length-append (escaped (take i s)) (escape (get_or s i 0)));
-      }
-
-      pub measure_over : 18446744073709551615 - n < k → 18446744073709551615 ≡ need_place (length (escaped s))
-      measure_over l = omega (arith, escaped_within s i h)
+    pub measure_turn : {k r : ℕ} → i < length s → k ≡ length (escape (get_or s i 0)) → r ≡ min (n + k) (2 ^ 64 - 1) → Measuring s r (i + 1)
+    measure_turn h e q = record {
+      bound = omega arith;
+      size = omega (arith, m.size, ap length (escaped_next s i h), length-append (escaped (take i s)) (escape (get_or s i 0)));
+    }
 
     pub measure_last : length s ≤ i → n ≡ need_place (length (escaped s))
-    measure_last h = omega (arith, ap (λ (t : List ℕ). length (escaped t)) (take_all i s h))
+    measure_last h = omega (arith, m.size, ap (λ (t : List ℕ). length (escaped t)) (take_all i s h))
 
 -- the bytes before i are written to the start of d₀, which is now d, up to index o
 pub record Writing (s d₀ d : List ℕ) (o i : ℕ) : Type 0 where
@@ -247,12 +242,12 @@ module _ (value at : ℕ) {d₀ : List ℕ} where
 
 -- ---- a text at the start of an output
 
-pub text_written : (w out : List ℕ) → length w ≤ length out → {n : ℕ} {out' : List ℕ} → Puts out 0 w n out' → WritesPart w out (reply.Length n) out'
+pub text_written : (w out : List ℕ) → length w ≤ length out → {n : ℕ} {out' : List ℕ} → Puts out 0 w n out' → WritesPart w out (Ok n) out'
 text_written w out h p =
     let t : leb (length w) (length out) ≡ true = le-leb (length w) (length out) h in
     record { reply = simp t (ap ok (omega (arith, p.end))); buffer = simp t (p.buffer ∙ put_front out w) }
 
-pub text_copied : (w out : List ℕ) → length w ≤ length out → {n : ℕ} {out' : List ℕ} → Places out 0 w n out' → WritesPart w out (reply.Length n) out'
+pub text_copied : (w out : List ℕ) → length w ≤ length out → {n : ℕ} {out' : List ℕ} → Places out 0 w n out' → WritesPart w out (Ok n) out'
 text_copied w out h p = text_written w out h (places_fits out 0 w (omega arith) p)
 
 module _ (start end out : List ℕ) (v : ℕ) {n : ℕ} (s : CountsDigits v n) where
@@ -260,7 +255,7 @@ module _ (start end out : List ℕ) (v : ℕ) {n : ℕ} (s : CountsDigits v n) w
   size = omega (arith, length-append (start ++ decimal v) end, length-append start (decimal v))
 
   pub numbered_written : length start + n + length end ≤ length out → {a b r : ℕ} {d d' d'' : List ℕ}
-      → Places out 0 start a d → Puts d (length start) (decimal v) b d' → Places d' b end r d'' → WritesPart (numbered start v end) out (reply.Length r) d''
+      → Places out 0 start a d → Puts d (length start) (decimal v) b d' → Places d' b end r d'' → WritesPart (numbered start v end) out (Ok r) d''
   numbered_written h {d = d} {d' = d'} p q w =
       let f : Puts out 0 start (length start) d = record { end = omega arith; buffer = places_front out start (omega arith) p } in
       let g = puts_then f q (omega arith) in
@@ -269,25 +264,18 @@ module _ (start end out : List ℕ) (v : ℕ) {n : ℕ} (s : CountsDigits v n) w
       text_written (numbered start v end) out (omega (arith, size))
       (puts_then g (places_fits d' _ end (omega (arith, g.end)) w) (omega arith))
 
--- a text that fits is written
-module _ (t out : List ℕ) (h : length t ≤ length out) {r : LengthReply} {out' : List ℕ} where
-  pub text_puts : {n : ℕ} → r ≡ reply.Length n → WritesPart t out r out' → Puts out 0 t n out'
-  text_puts {n} g w =
-      let f : leb (length t) (length out) ≡ true = le-leb (length t) (length out) h in
-      let e : length_reply_of (reply.Length n) ≡ ok (length t) = ap length_reply_of (sym g) ∙ simp f at w.reply in
-      let z : n ≡ length t = cc in
-      record { end = omega arith; buffer = simp f at w.buffer ∙ sym (put_front out t) }
-
-  -- and never refused
-  pub text_never : {e : MatError} → r ≡ reply.Error e → WritesPart t out r out' → {n : ℕ} → Puts out 0 t n out'
-  text_never {e} g w =
-      let f : leb (length t) (length out) ≡ true = le-leb (length t) (length out) h in
-      let e : length_reply_of (reply.Error e) ≡ ok (length t) = ap length_reply_of (sym g) ∙ simp f at w.reply in
-      let z : ◌≡◌ {A = ℕ} 0 1 = cc in
-      absurd (omega arith)
+-- a text that fits is written, and never refused
+pub text_puts : (t out : List ℕ) → length t ≤ length out → {r : Reply ℕ MatError} {out' : List ℕ} → WritesPart t out r out' → Puts out 0 t (result_unwrap_or r 0) out'
+text_puts t out h {r} w =
+    let f : leb (length t) (length out) ≡ true = le-leb (length t) (length out) h in
+    record { end = accepted r (simp f at w.reply); buffer = simp f at w.buffer ∙ sym (put_front out t) }
+  where
+    accepted : (x : Reply ℕ MatError) → outcome x ≡ ok (length t) → result_unwrap_or x 0 ≡ 0 + length t
+    accepted (Ok n) e = let z : n ≡ length t = same_value e in omega arith
+    accepted (Err m) e = let z : ◌≡◌ {A = ℕ} 0 1 = cc in absurd (omega arith)
 
 -- a part that is told by its variant
-pub part_is : {x p : LinePart} → x ≡ p → {out out' : List ℕ} {r : LengthReply} → WritesPart (line_text p) out r out' → WritesPart (line_text x) out r out'
+pub part_is : {x p : LinePart} → x ≡ p → {out out' : List ℕ} {r : Reply ℕ MatError} → WritesPart (line_text p) out r out' → WritesPart (line_text x) out r out'
 part_is e t = rw e t
 
 -- ---- the most bytes that a text needs

@@ -1,8 +1,8 @@
--- `printing::list` meets its contract.
+-- `printing::list`: a blob has fewer than 2^32 records.
 -- Assumes nothing.
+use native.Mathlib.Omega.{arith}
 use Rattle.reader.proofs.NameLaws.{few_records}
-use borrow.Author.Rules.{rules}
 use Rattle.printing.proofs.list.Goals as goal
 
-pub list_objects-objects-requires-clause-records_bound : goal.list_objects-objects-requires-clause-records_bound
-list_objects-objects-requires-clause-records_bound g c = search (few_records, rules)
+pub overflow_cast-w : goal.overflow_cast-w
+overflow_cast-w g c = omega (arith, few_records _ c.in-Ok.ensures)

@@ -1,20 +1,16 @@
--- The equations of `blocks_from`: above them nothing looks at its count; the loop that counts the blocks of a region, and the walk to one.
+-- The equations of `blocks_from`: above them nothing looks at its count; and the loop that counts the blocks of a region.
 -- Assumes nothing.
 use mathlib.Core.Path.{◌≡◌, refl, sym, ap, ◌∙◌}
 use mathlib.Core.List.{List}
 use Prim.Native.Nat.{ℕ, zero, suc, ◌+◌, ◌-◌, ◌*◌, ◌/◌, ◌≤◌, ◌<◌}
-use native.Mathlib.Nat.{le_trans, mul-le-mul_right}
-use native.Mathlib.Numerals.{add-one}
 use native.Mathlib.Omega.{arith}
 use borrow.Author.Tests.{le-leb, lt-leb, leb-true}
 use lib.Dec.{leb}
-use lib.ListN.{length}
 use Rattle.text.specs.Result.{Result, ok, error}
 use Rattle.text.proofs.TestLaws.{either}
 use Rattle.text.proofs.ResultLaws.{check_passed}
 use Rattle.reader.specs.Blocks.{block_end, next_block, block_at, blocks_count, blocks_from, blocks}
-use Rattle.reader.specs.Stages.Blocks.{HasBlock, IsRegion, block_count_of}
-use Rattle.reader.specs.declared.blocks.BlockCount.TheVariants as count
+use Rattle.reader.specs.Stages.Blocks.{HasBlock, IsRegion}
 
 module _ (size : ℕ) (b : List ℕ) where
   pub next_after : (i : ℕ) → block_end size b i ≤ next_block size b i
@@ -99,9 +95,6 @@ pub record Counting (size : ℕ) (b : List ℕ) (start e n i : ℕ) : Type 0 whe
   pub rest : blocks size b start e ≡ blocks_from size b i e n
 
 module _ {size : ℕ} {b : List ℕ} {start e : ℕ} (region : IsRegion b start e size) where
-  pub count_start : Counting size b start e 0 start
-  count_start = record { few = omega arith; most = omega arith; rest = refl }
-
   module _ {n i : ℕ} (c : Counting size b start e n i) where
     module _ {r l : ℕ} (left : r ≡ e - i) (room : 4 ≤ r) (last : l ≡ block_end size b i) where
       pub count_turn : {k : ℕ} → l ≤ e → k ≡ (l + 7) / 8 * 8 → Counting size b start e (n + 1) k
@@ -111,41 +104,11 @@ module _ {size : ℕ} {b : List ℕ} {start e : ℕ} (region : IsRegion b start 
           let p = next_past size b i in
           record { few = omega arith; most = omega arith; rest = rw x (c.rest ∙ blocks_more size b i e n (omega arith) (omega arith)) }
 
-      pub count_stop : e < l → block_count_of (count.Truncated i) ≡ blocks size b start e
+      pub count_stop : e < l → error (record { number = 7; place = i }) ≡ blocks size b start e
       count_stop h = sym (c.rest ∙ blocks_cut size b i e n (omega arith) (omega arith))
 
-    pub count_last : {r : ℕ} → r ≡ e - i → r < 4 → block_count_of (count.Blocks n) ≡ blocks size b start e
+    pub count_last : {r : ℕ} → r ≡ e - i → r < 4 → ok n ≡ blocks size b start e
     count_last w h = sym (c.rest ∙ blocks_end size b i e n (omega arith))
-
--- the entries of a block take no more than 64 bits
-pub entries_fit : {size v : ℕ} → size ≤ 12 → v < 4294967296 → size * v ≤ 51539607540
-entries_fit {size} {v} h k = le_trans (mul-le-mul_right v h) (omega arith)
-
--- ---- the walk to a block
-
--- the walk stands at block k, which is not past the one that is looked for
-pub record Walking (size : ℕ) (b : List ℕ) (start n k i : ℕ) : Type 0 where
-  pub bound : k ≤ n
-  pub is : i ≡ block_at size b start k
-
-module _ {size : ℕ} {b : List ℕ} {start n : ℕ} (has : HasBlock size b start n) where
-  pub walk_start : Walking size b start n 0 start
-  unfolding block_at
-  walk_start = record { bound = omega arith; is = refl }
-
-  module _ {k i : ℕ} (w : Walking size b start n k i) where
-    here : k ≤ n → block_end size b i ≤ length b
-    here h = rw w.is (has.inside k h)
-
-    pub walk_turn : k < n → {l r : ℕ} → l ≡ block_end size b i → r ≡ (l + 7) / 8 * 8 → Walking size b start n (k + 1) r
-    unfolding block_at next_block
-    walk_turn h {l} {r} e t =
-        record { bound = omega arith; is = rw (t, e, w.is, add-one) }
-
-    pub walk_last : n ≤ k → i ≡ block_at size b start n
-    walk_last h =
-        let z : k ≡ n = omega (arith, w.bound) in
-        rw (w.is, z)
 
 -- ---- blocks by their distance
 

@@ -10,8 +10,9 @@ use Rattle.text.specs.Result.{Result, ok, error, map_result, ◌>>=◌, values_o
 use Rattle.text.proofs.BufferLaws.{put_more, length_put}
 use Rattle.writer.specs.Spans.{joined, spans_from}
 use Rattle.writer.proofs.LayoutLaws.{joined_append, length_joined, spans_append, length_spans}
-use Rattle.reader.specs.Replies.{DecodedSize, size_of}
+use Rattle.reader.specs.Replies.{size_of}
 use Rattle.reader.specs.Stages.Saveobj.{FitsAt, WritesAt}
+use Rattle.reader.specs.declared.saveobj.DecodedSize.{DecodedSize}
 use Rattle.reader.specs.declared.saveobj.Position.{Position}
 use Rattle.reader.proofs.saveobj.Payload.{counts_are}
 
@@ -49,16 +50,15 @@ both_passed (error f) y {ss} e =
     let z : ◌≡◌ {A = ℕ} 0 1 = cc in
     absurd (omega arith)
 
-pub both_counts : (x y : Strings) {b n c m : ℕ} → ◌≡◌ {A = Result DecodedSize} (map_result size_of x) (ok (record { bytes = b; strings = n }))
-    → ◌≡◌ {A = Result DecodedSize} (map_result size_of y) (ok (record { bytes = c; strings = m }))
-    → ◌≡◌ {A = Result DecodedSize} (map_result size_of (both x y)) (ok (record { bytes = b + c; strings = n + m }))
+pub both_counts : (x y : Strings) {s t : DecodedSize} → ok s ≡ map_result size_of x → ok t ≡ map_result size_of y
+    → ok (record { bytes = s.bytes + t.bytes; strings = s.strings + t.strings }) ≡ map_result size_of (both x y)
 unfolding both
-both_counts x y {b} {n} {c} {m} e f =
+both_counts x y {s} {t} e f =
     let p = counts_are x e in
     let q = counts_are y f in
-    let bytes : length (joined (values_of x ++ values_of y)) ≡ b + c =
+    let bytes : length (joined (values_of x ++ values_of y)) ≡ s.bytes + t.bytes =
     omega (arith, p.1, q.1, length_joined (values_of x) (values_of y)) in
-    let strings : length (values_of x ++ values_of y) ≡ n + m = omega (arith, p.2, q.2, length-append (values_of x) (values_of y)) in
+    let strings : length (values_of x ++ values_of y) ≡ s.strings + t.strings = omega (arith, p.2, q.2, length-append (values_of x) (values_of y)) in
     rw (p.0, q.0) (rw (bytes, strings))
 
 -- ---- what fits at a position, and what is written there
@@ -66,12 +66,12 @@ both_counts x y {b} {n} {c} {m} e f =
 -- the buffers keep their lengths
 module _ {x : Strings} {at : Position} {t s : List ℕ} (f : FitsAt x (length t) (length s) at) {next : Position} {t' s' : List ℕ} (w : WritesAt x at t s next t' s') where
   pub same_text : length t' ≡ length t
-  same_text = ap length w.writes.text_after ∙ length_put t at.byte (joined (values_of x)) f.text
+  same_text = ap length w.text_after ∙ length_put t at.byte (joined (values_of x)) f.text
 
   pub same_spans : length s' ≡ length s
   same_spans =
       let l = length_spans at.byte (values_of x) in
-      ap length w.writes.spans_after ∙ length_put s (2 * at.string) (spans_from at.byte (values_of x)) (omega (arith, f.spans))
+      ap length w.spans_after ∙ length_put s (2 * at.string) (spans_from at.byte (values_of x)) (omega (arith, f.spans))
 
 module _ (x y : Strings) where
   module _ {text_room span_room : ℕ} {at : Position} (f : FitsAt (both x y) text_room span_room at) where
@@ -95,7 +95,7 @@ module _ (x y : Strings) where
         let b = same_spans (fits_first f) w in
         record {
           passed = (parts f).1;
-          text = omega (arith, a, both_text f, w.writes.end);
+          text = omega (arith, a, both_text f, w.end);
           spans = omega (arith, b, both_spans f, w.strings);
         }
 
@@ -105,22 +105,21 @@ module _ (x y : Strings) where
         let k = values_of y in
         let p = length_spans at.byte j in
         let q = length_spans next.byte k in
+        let e = (parts f).2 in
         record {
-          strings = omega (arith, v.strings, w.strings, ap length (parts f).2, length-append j k);
-          writes =
-              rw (parts f).2
-              (record {
-                end = omega (arith, v.writes.end, w.writes.end, length_joined j k);
-                text_after =
-                    v.writes.text_after
-                    ∙ ap (λ (d : List ℕ). put d next.byte (joined k)) w.writes.text_after
-                    ∙ put_more t at.byte (joined j) (joined k) next.byte w.writes.end (omega (arith, both_text f, w.writes.end))
-                    ∙ ap (put t at.byte) (sym (joined_append j k));
-                spans_after =
-                    v.writes.spans_after
-                    ∙ ap (λ (d : List ℕ). put d (2 * next.string) (spans_from next.byte k)) w.writes.spans_after
-                    ∙ put_more s (2 * at.string) (spans_from at.byte j) (spans_from next.byte k) (2 * next.string) (omega (arith, w.strings)) (omega (arith, both_spans f, w.strings))
-                    ∙ ap (λ (b : ℕ). put s (2 * at.string) (spans_from at.byte j ++ spans_from b k)) w.writes.end
-                    ∙ ap (put s (2 * at.string)) (sym (spans_append at.byte j k));
-              });
+          strings = omega (arith, v.strings, w.strings, ap length e, length-append j k);
+          end = omega (arith, v.end, w.end, ap (λ (ss : List (List ℕ)). length (joined ss)) e, length_joined j k);
+          text_after =
+              rw e
+              (v.text_after
+              ∙ ap (λ (d : List ℕ). put d next.byte (joined k)) w.text_after
+              ∙ put_more t at.byte (joined j) (joined k) next.byte w.end (omega (arith, both_text f, w.end))
+              ∙ ap (put t at.byte) (sym (joined_append j k)));
+          spans_after =
+              rw e
+              (v.spans_after
+              ∙ ap (λ (d : List ℕ). put d (2 * next.string) (spans_from next.byte k)) w.spans_after
+              ∙ put_more s (2 * at.string) (spans_from at.byte j) (spans_from next.byte k) (2 * next.string) (omega (arith, w.strings)) (omega (arith, both_spans f, w.strings))
+              ∙ ap (λ (b : ℕ). put s (2 * at.string) (spans_from at.byte j ++ spans_from b k)) w.end
+              ∙ ap (put s (2 * at.string)) (sym (spans_append at.byte j k)));
         }

@@ -1,247 +1,200 @@
 -- The first road: an id, ids in turn with the loops of `measure_ids` and `put_ids`, and the outcomes of `write_ids` and `decode_string`.
 -- Assumes nothing.
-use Prim.Native.Nat.{ℕ, zero, suc, ◌+◌, ◌-◌, ◌*◌, ◌^◌, ◌≤◌, ◌<◌}
+use Prim.Native.Nat.{ℕ, ◌+◌, ◌-◌, ◌*◌, ◌^◌, ◌≤◌, ◌<◌}
 use mathlib.Core.Path.{◌≡◌, refl, sym, ap, ◌∙◌}
-use mathlib.Core.List.{List, [], flat_map}
+use mathlib.Core.List.{List, [], ◌∷◌, ◌++◌, flat_map}
 use native.Mathlib.Omega.{arith}
+use native.Mathlib.Numerals.{add-one}
 use lib.ListN.{length, get_or, take, drop, length-append}
-use Rattle.text.specs.Errors.{failure_of}
-use Rattle.text.specs.Replies.{checked_of}
+use lib.Seq.{length-take-le, take-suc}
+use Rattle.std.proofs.lemmas.List.{take-append-drop}
+use Rattle.std.specs.Prelude.{Result as Reply}
 use Rattle.text.specs.Result.{Result, ok, error, map_result, values_of}
+use Rattle.text.specs.declared.error.Failure.{Failure}
 use Rattle.text.specs.declared.error.MatError.{MatError}
-use Rattle.text.specs.declared.reply.Checked.{Checked}
-use Rattle.text.specs.declared.reply.Checked.TheVariants as checked
 use Rattle.text.proofs.BufferLaws.{put_none}
-use Rattle.text.proofs.ResultLaws.{reply_is, bind_passed}
+use Rattle.text.proofs.ReplyLaws.{told_error}
+use Rattle.text.proofs.ResultLaws.{bind_passed}
 use Rattle.writer.specs.Spans.{joined}
 use Rattle.writer.proofs.LayoutLaws.{length_joined, spans_none}
-use Rattle.reader.specs.Stages.Cells.{ReadsCell}
 use Rattle.reader.specs.Cells.{check_directory, cell_of}
 use Rattle.reader.specs.Decode.{id_strings, ids_strings, metadata_strings}
-use Rattle.reader.specs.Stages.Decode.{IdFits, IdsThere, IdsFit}
-use Rattle.reader.specs.Opaque.{opaque_metadata, opaque_reply_of}
+use Rattle.reader.specs.Opaque.{opaque_metadata}
 use Rattle.reader.specs.Opening.{opened}
-use Rattle.reader.specs.Replies.{parse_reply_of, DecodedSize, size_of, strings_reply_of, DecodesStrings}
+use Rattle.reader.specs.Replies.{size_of, DecodesStrings}
 use Rattle.reader.specs.Saveobj.{decode_payload}
 use Rattle.reader.specs.Stages.Saveobj.{origin, FitsAt, WritesAt}
-use Rattle.reader.specs.declared.cells.CellReply.{CellReply}
-use Rattle.reader.specs.declared.cells.CellReply.TheVariants as cell
 use Rattle.reader.specs.declared.file_wrapper.FileWrapper.{FileWrapper}
-use Rattle.reader.specs.declared.file_wrapper.ParseReply.{ParseReply}
-use Rattle.reader.specs.declared.file_wrapper.ParseReply.TheVariants as parse
 use Rattle.reader.specs.declared.opaque.OpaqueMetadata.{OpaqueMetadata}
-use Rattle.reader.specs.declared.opaque.OpaqueReply.{OpaqueReply}
-use Rattle.reader.specs.declared.opaque.OpaqueReply.TheVariants as opaque
+use Rattle.reader.specs.declared.saveobj.DecodedSize.{DecodedSize}
 use Rattle.reader.specs.declared.saveobj.Position.{Position}
-use Rattle.reader.specs.declared.saveobj.StringsReply.{StringsReply}
-use Rattle.reader.specs.declared.saveobj.StringsReply.TheVariants as reply
 use Rattle.reader.proofs.decode.Both.{Strings, both, both_none, none_both, both_assoc, both_passed, both_counts, fits_first, fits_second, writes_both}
-use Rattle.reader.proofs.cells.Laws.{found_is, found_not}
-use Rattle.reader.proofs.opaque.Laws.{opaque_passed}
-use Rattle.reader.proofs.saveobj.Payload.{counts_are, error_is, payload_most, decode_refused}
+use Rattle.reader.proofs.saveobj.Payload.{counts_are, payload_most}
 
--- ---- the outcomes of `measure_id` and `put_id`
+-- ---- the outcomes of `put_id`
 
-module _ (directory kinds words : List ℕ) (id : ℕ) {x : CellReply} (c : ReadsCell (cell_of directory kinds words id) words x) where
-  module _ {start end : ℕ} (g : x ≡ cell.Cell start end) where
-    id_is : id_strings directory kinds words id ≡ decode_payload (take (end - start) (drop start words))
+module _ (directory kinds words : List ℕ) (id : ℕ) where
+  module _ {payload : List ℕ} (c : ok payload ≡ cell_of directory kinds words id) where
+    id_is : id_strings directory kinds words id ≡ decode_payload payload
     unfolding id_strings
-    id_is = rw (found_is c g)
-
-    pub id_measured : {r : Result DecodedSize} → r ≡ map_result size_of (decode_payload (take (end - start) (drop start words)))
-        → r ≡ map_result size_of (id_strings directory kinds words id)
-    id_measured e = rw id_is e
+    id_is = rw (sym c)
 
     module _ {at : Position} where
-      pub id_fits : {text_room span_room : ℕ} → IdFits directory kinds words id text_room span_room at
-          → FitsAt (decode_payload (take (end - start) (drop start words))) text_room span_room at
-      id_fits f = rw id_is at f.fits
+      pub id_fits : {text_room span_room : ℕ} → FitsAt (id_strings directory kinds words id) text_room span_room at
+          → FitsAt (decode_payload payload) text_room span_room at
+      id_fits f = rw id_is at f
 
-      pub id_writes : {t s : List ℕ} {next : Position} {t' s' : List ℕ} → WritesAt (decode_payload (take (end - start) (drop start words))) at t s next t' s'
+      pub id_writes : {t s : List ℕ} {next : Position} {t' s' : List ℕ} → WritesAt (decode_payload payload) at t s next t' s'
           → WritesAt (id_strings directory kinds words id) at t s next t' s'
       id_writes w = rw id_is w
 
-  module _ {e : MatError} (g : x ≡ cell.Error e) where
-    pub id_refused : error (failure_of e) ≡ map_result size_of (id_strings directory kinds words id)
-    unfolding id_strings
-    id_refused = rw (found_not c g)
-
+  module _ {f : Failure} (c : error f ≡ cell_of directory kinds words id) where
     -- an id that has strings has a cell
-    pub id_never : {t s : List ℕ} {at : Position} → IdFits directory kinds words id (length t) (length s) at → WritesAt (id_strings directory kinds words id) at t s at t s
-    id_never f =
-        let k = error_is (id_strings directory kinds words id) (sym id_refused) in
-        let p = f.fits.passed in
+    pub id_never : {t s : List ℕ} {at : Position} → FitsAt (id_strings directory kinds words id) (length t) (length s) at → WritesAt (id_strings directory kinds words id) at t s at t s
+    unfolding id_strings
+    id_never h =
+        let k : id_strings directory kinds words id ≡ error f = rw (sym c) in
+        let p = h.passed in
         let z : ◌≡◌ {A = ℕ} 0 1 = cc in
         absurd (omega arith)
 
 -- ---- ids in turn
 
-module _ (directory kinds words metadata : List ℕ) where
+module _ (directory kinds words : List ℕ) where
   abbrev one : ℕ → Strings
-  one i = id_strings directory kinds words (get_or metadata i 0)
+  one = id_strings directory kinds words
 
-  abbrev ids : ℕ → ℕ → Strings
-  ids i n = ids_strings directory kinds words metadata i n
+  abbrev ids : List ℕ → Strings
+  ids = ids_strings directory kinds words
 
-  ids_zero : (i : ℕ) → ids i 0 ≡ ok []
-  unfolding ids_strings
-  ids_zero i = refl
-
-  ids_suc : (i n : ℕ) → ids i (suc n) ≡ both (one i) (ids (suc i) n)
+  ids_cons : (x : ℕ) (xs : List ℕ) → ids (x ∷ xs) ≡ both (one x) (ids xs)
   unfolding ids_strings both
-  ids_suc i n = refl
+  ids_cons x xs = refl
 
-  ids_split : (i n k : ℕ) → ids i (n + k) ≡ both (ids i n) (ids (i + n) k)
-  ids_split i zero k =
-      let a : 0 + k ≡ k = omega arith in
-      let b : i + 0 ≡ i = omega arith in
-      rw (a, b, ids_zero i) (sym (none_both (ids i k)))
-  ids_split i (suc n) k =
-      let a : suc n + k ≡ suc (n + k) = omega arith in
-      let b : i + suc n ≡ suc i + n = omega arith in
-      rw (a, b, ids_suc i (n + k), ids_suc i n) (ap (both (one i)) (ids_split (suc i) n k) ∙ both_assoc (one i) (ids (suc i) n) (ids (suc i + n) k))
+  ids_append : (xs ys : List ℕ) → ids (xs ++ ys) ≡ both (ids xs) (ids ys)
+  unfolding ids_strings
+  ids_append [] ys = sym (none_both (ids ys))
+  ids_append (x ∷ xs) ys = rw (ids_cons x (xs ++ ys), ids_cons x xs) (ap (both (one x)) (ids_append xs ys) ∙ both_assoc (one x) (ids xs) (ids ys))
 
-  -- one id more
-  ids_next : (i n : ℕ) → ids i (n + 1) ≡ both (ids i n) (one (i + n))
-  ids_next i n = ids_split i n 1 ∙ ap (both (ids i n)) (ids_suc (i + n) 0 ∙ rw (ids_zero (suc (i + n))) (both_none (one (i + n))))
+  ids_one : (x : ℕ) → ids (x ∷ []) ≡ one x
+  unfolding ids_strings
+  ids_one x = ids_cons x [] ∙ both_none (one x)
 
-  -- an id among others
-  ids_around : (first : ℕ) {i n : ℕ} → i < n → ids first n ≡ both (both (ids first i) (one (first + i))) (ids (first + (i + 1)) (n - (i + 1)))
-  ids_around first {i} {n} h =
-      let e : n ≡ i + 1 + (n - (i + 1)) = omega arith in
-      ap (ids first) e ∙ ids_split first (i + 1) (n - (i + 1)) ∙ rw (ids_next first i)
-
-  id_most : (id : ℕ) {ss : List (List ℕ)} → id_strings directory kinds words id ≡ ok ss → (length (joined ss) ≤ 12 * 2097152) × (length ss ≤ 2097152)
+  id_most : (id : ℕ) {ss : List (List ℕ)} → one id ≡ ok ss → (length (joined ss) ≤ 12 * 2097152) × (length ss ≤ 2097152)
   unfolding id_strings
   id_most id e =
       let p = bind_passed (cell_of directory kinds words id) _ e in
       payload_most p.0 p.1.1
 
-  ids_most : (i n : ℕ) {ss : List (List ℕ)} → ids i n ≡ ok ss → (length (joined ss) ≤ 12 * 2097152 * n) × (length ss ≤ 2097152 * n)
-  unfolding flat_map
-  ids_most i zero {ss} e =
-      let k = sym (ids_zero i) ∙ e in
+  ids_most : (xs : List ℕ) {ss : List (List ℕ)} → ids xs ≡ ok ss → (length (joined ss) ≤ 12 * 2097152 * length xs) × (length ss ≤ 2097152 * length xs)
+  unfolding flat_map ids_strings
+  ids_most [] {ss} e =
       let z : [] ≡ ss = cc in
       rw (sym z) (omega arith, omega arith)
-  ids_most i (suc n) {ss} e =
-      let p = both_passed (one i) (ids (suc i) n) (sym (ids_suc i n) ∙ e) in
-      let a = id_most (get_or metadata i 0) p.0 in
-      let b = ids_most (suc i) n p.1 in
-      let j = values_of (one i) in
-      let k = values_of (ids (suc i) n) in
+  ids_most (x ∷ xs) {ss} e =
+      let p = both_passed (one x) (ids xs) (sym (ids_cons x xs) ∙ e) in
+      let a = id_most x p.0 in
+      let b = ids_most xs p.1 in
+      let j = values_of (one x) in
+      let k = values_of (ids xs) in
       rw p.2 (omega (arith, a.0, b.0, length_joined j k), omega (arith, a.1, b.1, length-append j k))
 
-  -- ---- the loop of `measure_ids`
+  module _ (xs : List ℕ) where
+    -- one id more
+    ids_next : (i : ℕ) → i < length xs → ids (take (i + 1) xs) ≡ both (ids (take i xs)) (one (get_or xs i 0))
+    ids_next i h =
+        rw (add-one i, take-suc xs i 0 h)
+        (ids_append (take i xs) (get_or xs i 0 ∷ []) ∙ ap (both (ids (take i xs))) (ids_one (get_or xs i 0)))
 
-  -- the checks of the ids before id i hold, and these are the bytes and the number of their strings
-  pub record MeasuringIds (first n bytes strings i : ℕ) : Type 0 where
-    pub bound : i ≤ n
-    pub counts : ◌≡◌ {A = Result DecodedSize} (map_result size_of (ids first i)) (ok (record { bytes = bytes; strings = strings }))
+    -- an id among others
+    ids_around : {i : ℕ} → i < length xs → ids xs ≡ both (both (ids (take i xs)) (one (get_or xs i 0))) (ids (drop (i + 1) xs))
+    ids_around {i} h =
+        ap ids (sym (take-append-drop (i + 1) xs)) ∙ ids_append (take (i + 1) xs) (drop (i + 1) xs) ∙ ap (λ (s : Strings). both s (ids (drop (i + 1) xs))) (ids_next i h)
 
-  module _ (first n : ℕ) where
-    pub ids_start : MeasuringIds first n 0 0 0
-    unfolding flat_map
-    ids_start = record { bound = omega arith; counts = rw (ids_zero first) }
+    -- ---- the loop of `measure_ids`
 
-    module _ {bytes strings i : ℕ} (m : MeasuringIds first n bytes strings i) where
-      module _ (h : i < n) {x : StringsReply} where
-        pub ids_stop : {f : MatError} → x ≡ reply.Error f → strings_reply_of x ≡ map_result size_of (one (first + i)) → error (failure_of f) ≡ map_result size_of (ids first n)
-        unfolding both
-        ids_stop g e = rw (ids_around first h, (counts_are (ids first i) m.counts).0, error_is (one (first + i)) (reply_is strings_reply_of e g))
+    -- the checks of the ids before id i hold, and these are the bytes and the number of their strings
+    pub record MeasuringIds (bytes strings i : ℕ) : Type 0 where
+      pub counts : ◌≡◌ {A = Result DecodedSize} (ok (record { bytes = bytes; strings = strings })) (map_result size_of (ids (take i xs)))
 
-        module _ {more others : ℕ} (g : x ≡ reply.Strings more others) (e : strings_reply_of x ≡ map_result size_of (one (first + i))) where
-          pub ids_turn : MeasuringIds first n (bytes + more) (strings + others) (i + 1)
-          ids_turn = record {
-            bound = omega arith;
-            counts = rw (ids_next first i) (both_counts (ids first i) (one (first + i)) m.counts (reply_is strings_reply_of e g));
-          }
+    pub ids_start : MeasuringIds 0 0 0
+    unfolding flat_map ids_strings
+    ids_start = record { counts = refl }
 
-          module _ (t : IdsThere directory kinds words metadata first n) where
-            sums_fit : (bytes + more < 2 ^ 64) × (strings + others < 2 ^ 64)
-            sums_fit =
-                let p = counts_are (ids first (i + 1)) ids_turn.counts in
-                let q = ids_most first (i + 1) p.0 in
-                (omega (arith, p.1, q.0), omega (arith, p.2, q.1))
+    module _ {bytes strings i : ℕ} (m : MeasuringIds bytes strings i) (h : i < length xs) where
+      pub ids_stop : {f : Failure} → error f ≡ map_result size_of (one (get_or xs i 0)) → error f ≡ map_result size_of (ids xs)
+      unfolding both
+      ids_stop e = rw (ids_around h, (counts_are (ids (take i xs)) m.counts).0, told_error size_of (one (get_or xs i 0)) e)
 
-            pub ids_bytes : bytes + more < 2 ^ 64
-            ids_bytes = sums_fit.0
+      module _ {more : DecodedSize} (e : ok more ≡ map_result size_of (one (get_or xs i 0))) where
+        pub ids_turn : MeasuringIds (bytes + more.bytes) (strings + more.strings) (i + 1)
+        ids_turn = record { counts = rw (ids_next i h) (both_counts (ids (take i xs)) (one (get_or xs i 0)) m.counts e) }
 
-            pub ids_strings_lem : strings + others < 2 ^ 64
-            ids_strings_lem = sums_fit.1
+        -- the sums of a turn fit 64 bits
+        pub ids_fit : length xs ≤ 65536 → (bytes + more.bytes < 2 ^ 64) × (strings + more.strings < 2 ^ 64)
+        ids_fit few =
+            let p = counts_are (ids (take (i + 1) xs)) ids_turn.counts in
+            let q = ids_most (take (i + 1) xs) p.0 in
+            let l = length-take-le (i + 1) xs in
+            (omega (arith, p.1, q.0, l), omega (arith, p.2, q.1, l))
 
-  -- ---- the loop of `put_ids`
+    -- ---- the loop of `put_ids`
 
-  -- the strings of the ids before id i are written, and their spans; at is the position after them
-  pub record WritingIds (first n : ℕ) (t₀ s₀ : List ℕ) (at : Position) (t s : List ℕ) (i : ℕ) : Type 0 where
-    pub bound : i ≤ n
-    pub written : WritesAt (ids first i) origin t₀ s₀ at t s
+    -- the strings of the ids before id i are written, and their spans; at is the position after them
+    pub record WritingIds (t₀ s₀ : List ℕ) (at : Position) (t s : List ℕ) (i : ℕ) : Type 0 where
+      pub written : WritesAt (ids (take i xs)) origin t₀ s₀ at t s
 
-  module _ (first n : ℕ) (t₀ s₀ : List ℕ) where
-    pub puts_start : WritingIds first n t₀ s₀ origin t₀ s₀ 0
-    unfolding flat_map
-    puts_start = record {
-      bound = omega arith;
-      written = rw (ids_zero first)
-          (record { strings = omega arith; writes = record { end = omega arith; text_after = sym (put_none t₀ 0); spans_after = rw spans_none (sym (put_none s₀ (2 * 0))) } });
-    }
+    module _ (t₀ s₀ : List ℕ) where
+      pub puts_start : WritingIds t₀ s₀ origin t₀ s₀ 0
+      unfolding flat_map ids_strings
+      puts_start = record {
+        written = record { strings = omega arith; end = omega arith; text_after = sym (put_none t₀ 0); spans_after = rw spans_none (sym (put_none s₀ (2 * 0))) };
+      }
 
-    module _ (f : IdsFit directory kinds words metadata first n (length t₀) (length s₀)) {at : Position} {t s : List ℕ} {i : ℕ} (m : WritingIds first n t₀ s₀ at t s i) where
-      module _ (h : i < n) where
-        fits_upto : FitsAt (both (ids first i) (one (first + i))) (length t₀) (length s₀) origin
-        fits_upto = fits_first _ _ (rw (ids_around first h) at f.fits)
+      module _ (f : FitsAt (ids xs) (length t₀) (length s₀) origin) {at : Position} {t s : List ℕ} {i : ℕ} (m : WritingIds t₀ s₀ at t s i) (h : i < length xs) where
+        fits_upto : FitsAt (both (ids (take i xs)) (one (get_or xs i 0))) (length t₀) (length s₀) origin
+        fits_upto = fits_first _ _ (rw (ids_around h) at f)
 
-        pub puts_fits : IdFits directory kinds words (get_or metadata (first + i) 0) (length t) (length s) at
-        puts_fits = record { cells = f.ids.cells; fits = fits_second _ _ fits_upto m.written }
+        pub puts_fits : FitsAt (one (get_or xs i 0)) (length t) (length s) at
+        puts_fits = fits_second _ _ fits_upto m.written
 
-        pub puts_turn : {next : Position} {t' s' : List ℕ} → WritesAt (one (first + i)) at t s next t' s' → WritingIds first n t₀ s₀ next t' s' (i + 1)
-        puts_turn w = record { bound = omega arith; written = rw (ids_next first i) (writes_both _ _ fits_upto m.written w) }
+        pub puts_turn : {next : Position} {t' s' : List ℕ} → WritesAt (one (get_or xs i 0)) at t s next t' s' → WritingIds t₀ s₀ next t' s' (i + 1)
+        puts_turn w = record { written = rw (ids_next i h) (writes_both _ _ fits_upto m.written w) }
 
-  -- ---- the outcomes of `write_ids`, beside those of every result
+    -- ---- the outcomes of `write_ids`, beside those of every result
 
-  module _ (first n : ℕ) (there : IdsThere directory kinds words metadata first n) {x : StringsReply} {b k : ℕ} (g : x ≡ reply.Strings b k) (e : strings_reply_of x ≡ map_result size_of (ids first n)) where
     -- the values of the spans fit 64 bits
-    pub ids_values : 2 * k < 2 ^ 64
-    ids_values =
-        let c = counts_are (ids first n) (reply_is strings_reply_of e g) in
-        omega (arith, c.2, (ids_most first n c.0).1)
+    pub ids_values : length xs ≤ 65536 → {size : DecodedSize} → ok size ≡ map_result size_of (ids xs) → 2 * size.strings < 2 ^ 64
+    ids_values few e =
+        let c = counts_are (ids xs) e in
+        omega (arith, c.2, (ids_most xs c.0).1)
 
 -- ---- the outcomes of `decode_string`
 
-module _ (blob directory kinds words metadata text spans : List ℕ) where
+module _ (blob directory kinds words metadata : List ℕ) where
   abbrev named : Strings
   named = metadata_strings blob directory kinds words metadata
 
-  refused : {f : MatError} → named ≡ error (failure_of f)
-      → DecodesStrings named text spans (reply.Error f) text spans
-  refused {f} e = decode_refused named text spans (reply.Error f) (ap (map_result size_of) (sym e)) refl
+  pub named_blob : {f : Failure} → error f ≡ opened blob → named ≡ error f
+  unfolding metadata_strings
+  named_blob p = rw (sym p)
 
-  module _ {x : ParseReply} (p : parse_reply_of x ≡ opened blob) where
-    pub named_blob : {f : MatError} → x ≡ parse.Error f → DecodesStrings named text spans (reply.Error f) text spans
+  module _ {w : FileWrapper} (p : ok w ≡ opened blob) where
+    pub named_directory : {f : Failure} → error f ≡ check_directory directory kinds (length words) → named ≡ error f
     unfolding metadata_strings
-    named_blob g = refused (rw (reply_is parse_reply_of p g))
+    named_directory d = rw (sym p) (rw (sym d))
 
-    module _ {w : FileWrapper} (g : x ≡ parse.Parsed w) {y : Checked} (d : checked_of y ≡ check_directory directory kinds (length words)) where
-      pub named_directory : {f : MatError} → y ≡ checked.Failed f → DecodesStrings named text spans (reply.Error f) text spans
+    module _ (d : ok tt ≡ check_directory directory kinds (length words)) where
+      pub named_metadata : {f : Failure} → error f ≡ opaque_metadata metadata → named ≡ error f
       unfolding metadata_strings
-      named_directory k = refused (rw (reply_is parse_reply_of p g) (rw (reply_is checked_of d k)))
+      named_metadata o = rw (sym p) (rw (sym d) (rw (sym o)))
 
-      module _ (k : y ≡ checked.Passed) {z : OpaqueReply} (o : opaque_reply_of z ≡ opaque_metadata metadata) where
-        pub named_metadata : {f : MatError} → z ≡ opaque.Error f → DecodesStrings named text spans (reply.Error f) text spans
+      module _ {m : OpaqueMetadata} (o : ok m ≡ opaque_metadata metadata) where
+        pub named_ids : {d k w : List ℕ} → (d ≡ directory) × (k ≡ kinds) × (w ≡ words)
+            → {text spans : List ℕ} {r : Reply DecodedSize MatError} {text' spans' : List ℕ}
+            → DecodesStrings (ids_strings d k w (take (m.first_id + m.ids - m.first_id) (drop m.first_id metadata))) text spans r text' spans'
+            → DecodesStrings named text spans r text' spans'
         unfolding metadata_strings
-        named_metadata q = refused (rw (reply_is parse_reply_of p g) (rw (reply_is checked_of d k) (rw (reply_is opaque_reply_of o q))))
-
-        module _ {m : OpaqueMetadata} (q : z ≡ opaque.Parsed m) where
-          pub named_there : IdsThere directory kinds words metadata m.first_id m.ids
-          named_there =
-              let t = opaque_passed metadata (reply_is opaque_reply_of o q) in
-              record { cells = record { passed = reply_is checked_of d k }; there = t.there; few = t.few }
-
-          named_is : named ≡ ids_strings directory kinds words metadata m.first_id m.ids
-          unfolding metadata_strings
-          named_is = rw (reply_is parse_reply_of p g) (rw (reply_is checked_of d k) (rw (reply_is opaque_reply_of o q)))
-
-          pub named_ids : {r : StringsReply} {text' spans' : List ℕ} → DecodesStrings (ids_strings directory kinds words metadata m.first_id m.ids) text spans r text' spans'
-              → DecodesStrings named text spans r text' spans'
-          named_ids h = rw named_is h
-
-pub ruleset named_outcomes = (named_blob, named_directory, named_metadata, named_ids)
+        named_ids l h =
+            let n : m.first_id + m.ids - m.first_id ≡ m.ids = omega arith in
+            rw (sym p) (rw (sym d) (rw (sym o) (rw (n, l.0, l.1, l.2) at h)))

@@ -1,38 +1,35 @@
 -- Finding a property by its name: the first triple for which a test holds, and the walk of the name heap that finds it.
 -- Assumes nothing.
 use mathlib.Core.Path.{◌≡◌, refl, sym, ap, ◌∙◌, fun_ext}
-use mathlib.Core.Bool.{Bool, true, false, cond, ◌||◌}
+use mathlib.Core.Bool.{Bool, true, false, ◌||◌}
 use mathlib.Core.List.{List, [], ◌∷◌}
-use mathlib.Core.Option.{Option, some, none}
+use Rattle.std.specs.Option.{unwrap_or}
+use Rattle.std.specs.Prelude.{Some, None}
 use Prim.Native.Nat.{ℕ, zero, suc, ◌+◌, ◌-◌, ◌*◌, ◌≤◌, ◌<◌}
 use native.Mathlib.Omega.{arith}
 use borrow.Author.Tests.{lt-ltb, le-ltb, le-leb, lt-leb, leb-true, ltb-true, ltb-false}
 use lib.Dec.{eqb, leb, ltb}
-use lib.ListN.{length, get_or, take}
+use lib.ListN.{length, take}
 use Rattle.text.specs.Buffer.{same}
-use Rattle.text.specs.Result.{Result, ok}
-use Rattle.text.specs.declared.error.MatError.{MatError}
+use Rattle.text.specs.Result.{ok}
 use Rattle.text.proofs.ResultLaws.{check_passed, seq_passed}
-use Rattle.text.proofs.TestLaws.{either}
+use Rattle.text.proofs.TestLaws.{either, equal_or}
 use Rattle.reader.specs.Stages.Names.{heap_pieces, ComparesPiece, PieceBegins}
-use Rattle.reader.specs.Objects.{triples_from, check_triple, check_triples, position, is_stored_as, find_property}
-use Rattle.reader.specs.Stages.Properties.{PassedTriples, ReadsTriples}
-use Rattle.reader.specs.Stages.Find.{first_index, first_of, is_in, flagged, stored_in, ToNames, ComparesName, FlagsNames, ScansNames}
+use Rattle.reader.specs.Objects.{triples_from, check_triple, check_triples, position, is_stored_as}
+use Rattle.reader.specs.Stages.Properties.{named_triples}
+use Rattle.reader.specs.Stages.Chunks.{is_in, ToNames, Looks, FillsTable}
+use Rattle.reader.specs.Stages.Find.{first_index, first_of, flagged, stored_in, ScansNames}
 use Rattle.reader.specs.Queries.{own_bytes}
-use Rattle.reader.specs.Replies.{find_reply_of}
 use Rattle.reader.specs.Wire.{triple_at}
-use Rattle.reader.specs.declared.file_wrapper.FileWrapper.{FileWrapper}
-use Rattle.reader.specs.declared.find.FindReply.TheVariants as find
-use Rattle.reader.specs.declared.find.Looked.{Looked}
+use Rattle.reader.specs.declared.file_wrapper.Metadata.{Metadata}
 use Rattle.reader.specs.declared.find.Walk.{Walk}
 use Rattle.reader.specs.declared.names.Compared.{Compared}
-use Rattle.reader.specs.declared.properties.TriplesReply.{TriplesReply}
-use Rattle.reader.specs.declared.properties.TriplesReply.TheVariants as triples
+use Rattle.reader.specs.declared.triples.Triples.{Triples}
 use Rattle.reader.specs.declared.records.Triple.{Triple}
-use Rattle.reader.proofs.properties.Laws.{length_triples, query_refused, query_read}
+use Rattle.reader.proofs.properties.Laws.{length_triples}
 use Rattle.reader.proofs.names.Comparison.{unnamed_equal, piece_equal}
 use Rattle.reader.proofs.names.Pieces.{stand_start, stand_inside, stand_empty, stand_next}
-use Rattle.reader.proofs.names.Tables.{in_range}
+use Rattle.reader.proofs.chunks.Laws.{in_range, in_chunk}
 
 -- ---- the first element for which a test holds
 
@@ -42,17 +39,24 @@ module _ {A : Type 0} (p : A → Bool) where
   first_le [] = omega arith
   first_le (x ∷ xs) = either (p x) (λ e. simp e (omega arith)) (λ e. simp e (omega (arith, first_le xs)))
 
-  pub position_none : (xs : List A) → first_index p xs ≡ length xs → position p xs ≡ none
+  pub position_none : (xs : List A) → first_index p xs ≡ length xs → position p xs ≡ None
   unfolding first_index position
   position_none [] h = refl
   position_none (x ∷ xs) h =
       either (p x) (λ e. absurd (omega (arith, simp e at h))) (λ e. simp (e, position_none xs (omega (arith, simp e at h))))
 
-  pub position_some : (xs : List A) → (first_index p xs ≡ length xs → ⊥) → position p xs ≡ some (first_index p xs)
+  pub position_some : (xs : List A) → (first_index p xs ≡ length xs → ⊥) → position p xs ≡ Some (first_index p xs)
   unfolding first_index position
   position_some [] h = absurd (h refl)
   position_some (x ∷ xs) h =
       either (p x) (λ e. simp e) (λ e. simp (e, position_some xs (λ z. h (simp e (ap suc z)))))
+
+  -- what a search leads to, or else the first
+  pub position_within : (xs : List A) → 0 < length xs → unwrap_or (position p xs) 0 < length xs
+  position_within xs h =
+      equal_or (first_index p xs) (length xs)
+      (λ z. rw (position_none xs z) h)
+      (λ z. rw (position_some xs z) (omega (arith, z, first_le xs)))
 
   first_none : ((x : A) → p x ≡ false) → (xs : List A) → first_index p xs ≡ length xs
   unfolding first_index
@@ -73,80 +77,54 @@ take_triples b i zero n h = refl
 take_triples b i (suc m) zero h = absurd (omega arith)
 take_triples b i (suc m) (suc n) h = ap (λ (ts : List Triple). triple_at b i ∷ ts) (take_triples b (i + 12) m n (omega arith))
 
-module _ (p : ℕ → Bool) where
-  of_none : ((x : ℕ) → p x ≡ false) → (b : List ℕ) (i n : ℕ) → n ≡ first_of p b i n
+module _ (p : ℕ → Bool) (ts : Triples) where
+  of_none : ((x : ℕ) → p x ≡ false) → (n : ℕ) → n ≡ first_of p ts n
   unfolding first_of
-  of_none h b i n = sym (first_none (λ t. p t.name_idx) (λ t. h t.name_idx) (triples_from b i n) ∙ length_triples b i n)
+  of_none h n = sym (first_none (λ t. p t.name_idx) (λ t. h t.name_idx) (triples_from ts.metadata.blob.now ts.at n) ∙ length_triples ts.metadata.blob.now ts.at n)
 
-  of_le : (b : List ℕ) (i n : ℕ) → first_of p b i n ≤ n
+  of_le : (n : ℕ) → first_of p ts n ≤ n
   unfolding first_of
-  of_le b i n = omega (arith, first_le (λ t. p t.name_idx) (triples_from b i n), length_triples b i n)
+  of_le n = omega (arith, first_le (λ t. p t.name_idx) (triples_from ts.metadata.blob.now ts.at n), length_triples ts.metadata.blob.now ts.at n)
 
-  of_or : (q r : ℕ → Bool) → ((x : ℕ) → r x ≡ (p x || q x)) → (b : List ℕ) (i n : ℕ) → first_of r b i n ≡ first_of q b i (first_of p b i n)
+  of_or : (q r : ℕ → Bool) → ((x : ℕ) → r x ≡ (p x || q x)) → (n : ℕ) → first_of r ts n ≡ first_of q ts (first_of p ts n)
   unfolding first_of
-  of_or q r h b i n =
-      first_or (λ t. p t.name_idx) (λ t. q t.name_idx) (λ t. r t.name_idx) (λ t. h t.name_idx) (triples_from b i n)
-      ∙ ap (first_index (λ t. q t.name_idx)) (take_triples b i (first_of p b i n) n (of_le b i n))
+  of_or q r h n =
+      first_or (λ t. p t.name_idx) (λ t. q t.name_idx) (λ t. r t.name_idx) (λ t. h t.name_idx) (triples_from ts.metadata.blob.now ts.at n)
+      ∙ ap (first_index (λ t. q t.name_idx)) (take_triples ts.metadata.blob.now ts.at (first_of p ts n) n (of_le n))
 
 -- none of the first k triples passes the test
-pub record Passing (p : ℕ → Bool) (b : List ℕ) (i n k : ℕ) : Type 0 where
-  pub bound : k ≤ n
-  pub rest : first_of p b i n ≡ k + first_of p b (i + 12 * k) (n - k)
+pub record Passing (p : ℕ → Bool) (ts : Triples) (n k : ℕ) : Type 0 where
+  pub rest : first_of p ts n ≡ k + first_index (λ (t : Triple). p t.name_idx) (triples_from ts.metadata.blob.now (ts.at + 12 * k) (n - k))
 
-module _ {p : ℕ → Bool} {b : List ℕ} {i n : ℕ} where
-  module _ {k : ℕ} (s : Passing p b i n k) where
-    module _ {t : Triple} {v : Bool} (h : k < n) (r : t ≡ triple_at b (i + 12 * k)) (e : v ≡ p t.name_idx) where
-      step : first_of p b (i + 12 * k) (n - k) ≡ cond v 0 (suc (first_of p b (i + 12 * (k + 1)) (n - (k + 1))))
-      unfolding first_of first_index triples_from
-      step =
-          let m : n - k ≡ suc (n - (k + 1)) = omega arith in
-          let a : i + 12 * (k + 1) ≡ i + 12 * k + 12 = omega arith in
-          rw (m, a, e, r)
-
-      pub pass_found : v ≡ true → k ≡ first_of p b i n
-      pass_found y = omega (arith, s.rest, rw y at step)
-
-      pub pass_turn : v ≡ false → Passing p b i n (k + 1)
-      pass_turn y = record { bound = omega arith; rest = omega (arith, s.rest, rw y at step) }
-
-    pub pass_last : n ≤ k → k ≡ first_of p b i n
-    unfolding first_of first_index triples_from
-    pass_last h =
-        let z : n - k ≡ 0 = omega arith in
-        omega (arith, rw z at s.rest)
-
--- ---- flags
-
-module _ (flags : List Bool) (first e x : ℕ) where
-  pub flag_before : x < first → false ≡ flagged flags first e x
-  unfolding flagged
-  flag_before h = simp (lt-leb first x h)
-
-  module _ (h : first ≤ x) where
-    pub flag_after : e ≤ x → false ≡ flagged flags first e x
-    unfolding flagged
-    flag_after l = simp (le-leb first x h, le-ltb x e l)
-
-    pub flag_here : x < e → get_or flags (x - first) false ≡ flagged flags first e x
-    unfolding flagged
-    flag_here l = simp (le-leb first x h, lt-ltb x e l)
+module _ {p : ℕ → Bool} {ts : Triples} {n k : ℕ} (s : Passing p ts n k) {t : Triple} {v : Bool} where
+  pub pass_turn : k < n → t ≡ triple_at ts.metadata.blob.now (ts.at + 12 * k) → v ≡ p t.name_idx → v ≡ false → Passing p ts n (k + 1)
+  unfolding first_index triples_from
+  pass_turn h r e y =
+      let m : n - k ≡ suc (n - (k + 1)) = omega arith in
+      let a : ts.at + 12 * (k + 1) ≡ ts.at + 12 * k + 12 = omega arith in
+      let z : p (triple_at ts.metadata.blob.now (ts.at + 12 * k)).name_idx ≡ false = rw r at (sym e ∙ y) in
+      let f : first_of p ts n ≡ k + suc (first_index (λ (t : Triple). p t.name_idx) (triples_from ts.metadata.blob.now (ts.at + 12 * k + 12) (n - (k + 1)))) = simp (m, z) at s.rest in
+      record { rest = rw a (omega (arith, f)) }
 
 -- ---- looking at a name
 
-module _ {b : List ℕ} {w : FileWrapper} {x start : ℕ} (n : ToNames b w x (x + 1) start) where
-  declared : x ≤ length (heap_pieces b w.offsets.o0)
-  declared = omega (arith, n.few, n.opens.names)
+module _ {m : Metadata} {x start : ℕ} (n : ToNames m x (x + 1) start) where
+  declared : x ≤ length (heap_pieces m.blob.now m.w.offsets.o0)
+  declared = omega (arith, n.few, m.opens.names)
 
-  pub look_inside : (x ≡ 0 → ⊥) → start ≤ w.offsets.o0
+  pub look_inside : (x ≡ 0 → ⊥) → start ≤ m.w.offsets.o0
   look_inside z = stand_inside n.heap z declared
 
   module _ (wanted : List ℕ) where
-    pub look_empty : x ≡ 0 → ComparesName b w wanted x (record { equal = eqb (length wanted) 0; next = start })
-    look_empty z = record { is = unnamed_equal b w.offsets.o0 wanted z; heap = stand_empty n.heap z }
+    abbrev told : List ℕ → Bool
+    told name = same name wanted
 
-    pub look_piece : (x ≡ 0 → ⊥) → {c : Compared} → ComparesPiece b start w.offsets.o0 wanted c
-        → ComparesName b w wanted x (record { equal = c.equal; next = c.end + 1 })
-    look_piece z k = record { is = piece_equal b w.offsets.o0 wanted z declared n.heap k; heap = stand_next n.heap z declared k.piece }
+    pub look_empty : x ≡ 0 → Looks m false told x (record { value = eqb (length wanted) 0; any = eqb (length wanted) 0; next = start })
+    look_empty z = record { is = unnamed_equal m.blob.now m.w.offsets.o0 wanted z; none = λ e. e; heap = stand_empty n.heap z }
+
+    pub look_piece : (x ≡ 0 → ⊥) → {c : Compared} → ComparesPiece m.blob.now start m.w.offsets.o0 wanted c
+        → Looks m false told x (record { value = c.equal; any = c.equal; next = c.end + 1 })
+    look_piece z k = record { is = piece_equal m.blob.now m.w.offsets.o0 wanted z declared n.heap k; none = λ e. e; heap = stand_next n.heap z declared k.piece }
 
 -- ---- a chunk of names
 
@@ -157,99 +135,84 @@ or_false false = refl
 in_none : {first e : ℕ} → e ≤ first → (y : ℕ) → is_in first e y ≡ false
 in_none {first} {e} h y = either (leb first y) (λ t. simp (t, le-ltb y e (omega (arith, leb-true first y t)))) (λ t. simp t)
 
-module _ {b : List ℕ} {w : FileWrapper} {wanted : List ℕ} {first e : ℕ} {flags : List Bool} {m : Looked} (k : FlagsNames b w wanted first e flags m) where
-  flags_are : (x : ℕ) → flagged flags first e x ≡ stored_in b w wanted first e x
+module _ (ts : Triples) (from : Walk) (wanted : List ℕ) {e : ℕ} {flags : List Bool} {any : Bool} {next : ℕ}
+    (k : FillsTable ts.metadata false (λ name. same name wanted) from.name e flags any next) where
+  -- the flags are those of the names that are stored as wanted
+  flags_are : (x : ℕ) → flagged flags from.name e x ≡ stored_in ts.metadata wanted from.name e x
   unfolding flagged stored_in
-  flags_are x = in_range first e x (λ h l t. simp (t, k.table.is x h l)) (λ t. simp t)
+  flags_are x = rw (in_chunk k x) (either (is_in from.name e x) (λ t. simp t) (λ t. simp t))
 
-  flags_none : m.equal ≡ false → (x : ℕ) → stored_in b w wanted first e x ≡ false
+  flags_none : any ≡ false → (x : ℕ) → stored_in ts.metadata wanted from.name e x ≡ false
   unfolding stored_in
-  flags_none z x = in_range first e x (λ h l t. simp (t, k.table.none z x h l)) (λ t. simp t)
+  flags_none z x = in_range from.name e x (λ h l t. simp (t, k.is.none z x h l)) (λ t. simp t)
 
-module _ {b : List ℕ} {w : FileWrapper} {wanted : List ℕ} {i e : ℕ} {from : Walk} {flags : List Bool} {m : Looked}
-    (r : (from.name < e) × (e ≤ from.name + 4096) × (e ≤ w.names + 1)) (k : FlagsNames b w wanted from.name e flags m) where
-  advances : {best : ℕ} → best ≡ first_of (stored_in b w wanted from.name e) b i from.best → ScansNames b w i wanted from (record { name = e; start = m.next; best = best })
-  advances z = record { more = r.0; few = r.2; heap = k.table.heap; is = z }
+  advances : {best : ℕ} → best ≡ first_of (stored_in ts.metadata wanted from.name e) ts from.best → ScansNames ts wanted from (record { name = e; start = next; best = best })
+  advances z = record { more = k.more; few = k.few; heap = k.is.heap; is = z }
 
-  pub chunk_found : {best : ℕ} → best ≡ first_of (flagged flags from.name e) b i from.best
-      → ScansNames b w i wanted from (record { name = e; start = m.next; best = best })
-  chunk_found z = advances (z ∙ ap (λ (p : ℕ → Bool). first_of p b i from.best) (fun_ext (flags_are k)))
+  pub chunk_some : {c : ℕ} → c ≡ from.name → {best : ℕ} → best ≡ first_of (flagged flags c e) ts from.best
+      → ScansNames ts wanted from (record { name = e; start = next; best = best })
+  chunk_some is z = advances (rw is at z ∙ ap (λ (p : ℕ → Bool). first_of p ts from.best) (fun_ext flags_are))
 
-  pub chunk_none : m.equal ≡ false → ScansNames b w i wanted from (record { name = e; start = m.next; best = from.best })
-  chunk_none z = advances (of_none (stored_in b w wanted from.name e) (flags_none k z) b i from.best)
+  pub chunk_none : any ≡ false → ScansNames ts wanted from (record { name = e; start = next; best = from.best })
+  chunk_none z = advances (of_none (stored_in ts.metadata wanted from.name e) ts (flags_none z) from.best)
 
 -- ---- the walk of the name heap
 
 -- best is the first triple with a wanted name of those that have been looked at
-pub record Walking (b : List ℕ) (w : FileWrapper) (i n : ℕ) (wanted : List ℕ) (k : Walk) : Type 0 where
-  pub few : k.name ≤ w.names + 1
-  pub order : k.best ≤ n
-  pub heap : PieceBegins b w.offsets.o0 k.name k.start
-  pub is : k.best ≡ first_of (stored_in b w wanted 0 k.name) b i n
+pub record Walking (ts : Triples) (wanted : List ℕ) (k : Walk) : Type 0 where
+  pub few : k.name ≤ ts.metadata.w.names + 1
+  pub order : k.best ≤ ts.count
+  pub heap : PieceBegins ts.metadata.blob.now ts.metadata.w.offsets.o0 k.name k.start
+  pub is : k.best ≡ first_of (stored_in ts.metadata wanted 0 k.name) ts ts.count
 
--- a name index that passed its check is one of the declared
-stored_all : (b : List ℕ) (w : FileWrapper) (wanted : List ℕ) (ts : List Triple) → check_triples w ts ≡ ok tt
-    → first_index (λ t. stored_in b w wanted 0 (w.names + 1) t.name_idx) ts ≡ first_index (is_stored_as b w wanted) ts
-unfolding stored_in first_index check_triples check_triple
-stored_all b w wanted [] e = refl
-stored_all b w wanted (t ∷ ts) e =
-    let p = seq_passed (check_triple w t) (check_triples w ts) e in
-    let q = check_passed 11 (leb t.name_idx w.names) t.name_idx _ p.1.0 in
-    let l : t.name_idx < w.names + 1 = omega (arith, leb-true t.name_idx w.names q.0) in
-    simp (le-leb 0 t.name_idx (omega arith), lt-ltb t.name_idx (w.names + 1) l, stored_all b w wanted ts p.1.1)
+module _ (m : Metadata) (wanted : List ℕ) where
+  -- a name index that passed its check is one of the declared
+  stored_all : (ts : List Triple) → check_triples m.w ts ≡ ok tt
+      → first_index (λ t. stored_in m wanted 0 (m.w.names + 1) t.name_idx) ts ≡ first_index (is_stored_as m.blob.now m.w wanted) ts
+  unfolding stored_in first_index check_triples check_triple
+  stored_all [] e = refl
+  stored_all (t ∷ ts) e =
+      let p = seq_passed (check_triple m.w t) (check_triples m.w ts) e in
+      let q = check_passed 11 (leb t.name_idx m.w.names) t.name_idx _ p.1.0 in
+      let l : t.name_idx < m.w.names + 1 = omega (arith, leb-true t.name_idx m.w.names q.0) in
+      simp (le-leb 0 t.name_idx (omega arith), lt-ltb t.name_idx (m.w.names + 1) l, stored_all ts p.1.1)
 
-stored_split : (b : List ℕ) (w : FileWrapper) (wanted : List ℕ) (k e : ℕ) → k ≤ e → (x : ℕ)
-    → stored_in b w wanted 0 e x ≡ (stored_in b w wanted 0 k x || stored_in b w wanted k e x)
-unfolding stored_in
-stored_split b w wanted k e h x =
-    either (ltb x k)
-    (λ t. let l = ltb-true x k t in simp (t, le-leb 0 x (omega arith), lt-ltb x e (omega arith), lt-leb k x l) (or_false (same (own_bytes b w x) wanted)))
-    (λ t. simp (t, le-leb 0 x (omega arith), le-leb k x (ltb-false x k t)))
+  stored_split : (k e : ℕ) → k ≤ e → (x : ℕ) → stored_in m wanted 0 e x ≡ (stored_in m wanted 0 k x || stored_in m wanted k e x)
+  unfolding stored_in
+  stored_split k e h x =
+      either (ltb x k)
+      (λ t. let l = ltb-true x k t in simp (t, le-leb 0 x (omega arith), lt-ltb x e (omega arith), lt-leb k x l) (or_false (same (own_bytes m.blob.now m.w x) wanted)))
+      (λ t. simp (t, le-leb 0 x (omega arith), le-leb k x (ltb-false x k t)))
 
-module _ {b : List ℕ} {w : FileWrapper} {i n : ℕ} (c : PassedTriples b w i n) {wanted : List ℕ} where
-  pub walk_start : Walking b w i n wanted (record { name = 0; start = 40; best = n })
+module _ (ts : Triples) (wanted : List ℕ) where
+  pub walk_start : Walking ts wanted (record { name = 0; start = 40; best = ts.count })
   unfolding stored_in
   walk_start = record {
     few = omega arith;
     order = omega arith;
     heap = stand_start;
-    is = of_none (stored_in b w wanted 0 0) (λ x. simp (in_none {first = 0} {e = 0} (omega arith) x)) b i n;
+    is = of_none (stored_in ts.metadata wanted 0 0) ts (λ x. simp (in_none {first = 0} {e = 0} (omega arith) x)) ts.count;
   }
 
-  module _ {k : Walk} (s : Walking b w i n wanted k) where
-    pub walk_turn : {r : Walk} → ScansNames b w i wanted k r → Walking b w i n wanted r
+  module _ {k : Walk} (s : Walking ts wanted k) where
+    pub walk_turn : {r : Walk} → ScansNames ts wanted k r → Walking ts wanted r
     walk_turn {r} a =
-        let o = of_or (stored_in b w wanted 0 k.name) (stored_in b w wanted k.name r.name) (stored_in b w wanted 0 r.name)
-        (stored_split b w wanted k.name r.name (omega (arith, a.more))) b i n in
-        let z : r.best ≡ first_of (stored_in b w wanted 0 r.name) b i n = a.is ∙ ap (first_of (stored_in b w wanted k.name r.name) b i) s.is ∙ sym o in
-        record { few = a.few; order = omega (arith, z, of_le (stored_in b w wanted 0 r.name) b i n); heap = a.heap; is = z }
+        let o = of_or (stored_in ts.metadata wanted 0 k.name) ts (stored_in ts.metadata wanted k.name r.name) (stored_in ts.metadata wanted 0 r.name)
+        (stored_split ts.metadata wanted k.name r.name (omega (arith, a.more))) ts.count in
+        let z : r.best ≡ first_of (stored_in ts.metadata wanted 0 r.name) ts ts.count = a.is ∙ ap (first_of (stored_in ts.metadata wanted k.name r.name) ts) s.is ∙ sym o in
+        record { few = a.few; order = omega (arith, z, of_le (stored_in ts.metadata wanted 0 r.name) ts ts.count); heap = a.heap; is = z }
 
-    pub walk_last : w.names < k.name → k.best ≡ first_index (is_stored_as b w wanted) (triples_from b i n)
-    unfolding first_of
-    walk_last h =
-        let z : k.name ≡ w.names + 1 = omega (arith, s.few) in
-        rw z at s.is ∙ stored_all b w wanted (triples_from b i n) c.checks
+    module _ (h : ts.metadata.w.names < k.name) where
+      last : k.best ≡ first_index (is_stored_as ts.metadata.blob.now ts.metadata.w wanted) (named_triples ts)
+      unfolding first_of
+      last =
+          let z : k.name ≡ ts.metadata.w.names + 1 = omega (arith, s.few) in
+          rw z at s.is ∙ stored_all ts.metadata wanted (named_triples ts) ts.passed.checks
 
--- ---- the public call
+      pub walk_none : k.best ≡ ts.count → None ≡ position (is_stored_as ts.metadata.blob.now ts.metadata.w wanted) (named_triples ts)
+      walk_none z =
+          sym (position_none (is_stored_as ts.metadata.blob.now ts.metadata.w wanted) (named_triples ts) (sym last ∙ z ∙ sym (length_triples ts.metadata.blob.now ts.at ts.count)))
 
-module _ (b : List ℕ) (id : ℕ) (wanted : List ℕ) where
-  abbrev position_of : FileWrapper → List Triple → Result (Option ℕ)
-  position_of w ts = ok (position (is_stored_as b w wanted) ts)
-
-  module _ {x : TriplesReply} (t : ReadsTriples b id x) where
-    pub find_refused : {e : MatError} → x ≡ triples.Error e → find_reply_of (find.Error e) ≡ find_property b id wanted
-    unfolding find_property
-    find_refused g = sym (query_refused b id position_of t g)
-
-    module _ {w : FileWrapper} {at n : ℕ} (g : x ≡ triples.Triples w at n) where
-      found : find_property b id wanted ≡ position_of w (triples_from b at n)
-      unfolding find_property
-      found = query_read b id position_of t g
-
-      module _ {r : ℕ} (f : r ≡ first_index (is_stored_as b w wanted) (triples_from b at n)) where
-        pub find_none : r ≡ n → find_reply_of find.NotFound ≡ find_property b id wanted
-        find_none z = sym (found ∙ ap ok (position_none (is_stored_as b w wanted) (triples_from b at n) (sym f ∙ z ∙ sym (length_triples b at n))))
-
-        pub find_some : (r ≡ n → ⊥) → find_reply_of (find.Found r) ≡ find_property b id wanted
-        find_some z =
-            sym (found ∙ ap ok (position_some (is_stored_as b w wanted) (triples_from b at n) (λ e. z (f ∙ e ∙ length_triples b at n)) ∙ ap some (sym f)))
+      pub walk_some : (k.best ≡ ts.count → ⊥) → Some k.best ≡ position (is_stored_as ts.metadata.blob.now ts.metadata.w wanted) (named_triples ts)
+      walk_some z =
+          sym (position_some (is_stored_as ts.metadata.blob.now ts.metadata.w wanted) (named_triples ts) (λ q. z (last ∙ q ∙ length_triples ts.metadata.blob.now ts.at ts.count)) ∙ ap Some (sym last))

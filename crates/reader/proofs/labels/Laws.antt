@@ -3,56 +3,42 @@
 use mathlib.Core.Path.{◌≡◌, refl, sym, ap, ap₂, ◌∙◌, subst}
 use mathlib.Core.Bool.{false}
 use mathlib.Core.List.{List, []}
-use mathlib.Core.Option.{some, none}
-use Prim.Native.Nat.{ℕ, zero, suc, ◌+◌, ◌-◌, ◌≤◌, ◌<◌}
+use Rattle.std.specs.Prelude.{Some, None}
+use Prim.Native.Nat.{ℕ, zero, suc, ◌+◌, ◌-◌, ◌≤◌}
 use native.Mathlib.Omega.{arith}
-use borrow.Author.Tests.{eq-eqb, ne_eqb, eqb-false, le-leb, lt-leb, leb-true, ltb-true, ltb-false}
+use borrow.Author.Tests.{eq-eqb, ne_eqb, eqb-false, le-leb, leb-true, ltb-true, ltb-false}
 use lib.Dec.{eqb, leb, ltb}
 use lib.ListN.{length, get_or, take, drop}
 use lib.Seq.{slice, length-slice, take-take, drop-drop}
-use Rattle.std.specs.Borrow.{Bor}
-use Rattle.text.specs.Replies.{terminated_length, length_of}
-use Rattle.text.specs.Result.{Result, ok, error}
+use Rattle.text.specs.Replies.{terminated_length}
+use Rattle.text.specs.Result.{ok, error}
 use Rattle.text.specs.Utf8.{scalars8, before_zero}
-use Rattle.text.specs.declared.error.MatError.{MatError}
-use Rattle.text.specs.declared.error.MatError.TheVariants.{NameIndexOutOfRange, NameIllFormed}
-use Rattle.text.specs.declared.utf8.TextLength.{TextLength}
-use Rattle.text.specs.declared.utf8.TextLength.TheVariants as text_length
 use Rattle.text.proofs.utf8.Lossy.{none_replaced, part_replaced, sound_replaced}
-use Rattle.text.proofs.ResultLaws.{reply_is, same_value, or_error_passed, check_passed, seq_passed, bind_passed}
+use Rattle.text.proofs.ResultLaws.{same_value, or_error_passed, check_passed, check_is, seq_passed, bind_passed}
 use Rattle.text.proofs.utf8.Terminated.{terminated_is, terminated_not}
 use Rattle.text.proofs.TestLaws.{either}
 use Rattle.text.proofs.Utf8Laws.{lossy_same, scalars8_empty}
-use Rattle.reader.specs.Labels.{IsPart, IsLabel, placeholder_part, name_part, check_well_formed, label_of, label_reply_of, buffer_of}
+use Rattle.reader.specs.Labels.{placeholder_part, name_part, check_well_formed, label_of}
 use Rattle.reader.specs.Names.{pieces, heap_of, name_bytes, length_with_zeros, name_start, sound_text}
 use Rattle.reader.specs.Stages.Names.{HasName, HasPieceAt}
 use Rattle.reader.specs.Opening.{opened}
-use Rattle.reader.specs.Queries.{own_bytes, shown, name_text}
-use Rattle.reader.specs.Replies.{parse_reply_of}
+use Rattle.reader.specs.Queries.{check_name, own_bytes, shown, name_text}
 use Rattle.reader.specs.declared.file_wrapper.FileWrapper.{FileWrapper}
-use Rattle.reader.specs.declared.file_wrapper.ParseReply.{ParseReply}
-use Rattle.reader.specs.declared.file_wrapper.ParseReply.TheVariants as parse
 use Rattle.reader.specs.declared.labels.Part.{Part}
-use Rattle.reader.specs.declared.labels.LabelReply.{LabelReply}
-use Rattle.reader.specs.declared.labels.LabelReply.TheVariants as reply
 use Rattle.reader.specs.declared.labels.Source.{Source}
 use Rattle.reader.specs.declared.labels.Source.TheVariants as source
-use Rattle.reader.proofs.NameLaws.{opens, part_slice}
+use Rattle.reader.proofs.NameLaws.{opens, parsed, part_slice}
 use Rattle.reader.proofs.names.Pieces.{named_heap, named_piece, lengths_pieces, lengths_at, lengths_less, piece_at, starts_place, starts_name}
 
 -- ---- outcomes of the definition
 
 module _ (b placeholder : List ℕ) (i : ℕ) {w : FileWrapper} (o : opened b ≡ ok w) where
-  outside : w.names < i → label_of b placeholder i ≡ error (record { number = 11; place = i })
-  unfolding label_of
-  outside h = rw o (simp (lt-leb i w.names h))
-
   module _ (h : i ≤ w.names) where
-    well_formed : {vs : List ℕ} → scalars8 (own_bytes b w i) ≡ some vs → label_of b placeholder i ≡ ok (name_part b placeholder w i)
+    well_formed : {vs : List ℕ} → scalars8 (own_bytes b w i) ≡ Some vs → label_of b placeholder i ≡ ok (name_part b placeholder w i)
     unfolding label_of
     well_formed e = rw o (simp (le-leb i w.names h, e))
 
-    ill_formed_lem : scalars8 (own_bytes b w i) ≡ none → label_of b placeholder i ≡ error (record { number = 35; place = i })
+    ill_formed_lem : scalars8 (own_bytes b w i) ≡ None → label_of b placeholder i ≡ error (record { number = 35; place = i })
     unfolding label_of
     ill_formed_lem e = rw o (simp (le-leb i w.names h, e))
 
@@ -122,7 +108,7 @@ record Accepted (b placeholder : List ℕ) (i : ℕ) (p : Part) : Type 0 where
   pub opened_is : opened b ≡ ok wrapper
   pub named : i ≤ wrapper.names
   pub scalars : List ℕ
-  pub sound : scalars8 (own_bytes b wrapper i) ≡ some scalars
+  pub sound : scalars8 (own_bytes b wrapper i) ≡ Some scalars
   pub is : p ≡ name_part b placeholder wrapper i
 
 accepted : (b placeholder : List ℕ) (i : ℕ) {p : Part} → label_of b placeholder i ≡ ok p → Accepted b placeholder i p
@@ -203,59 +189,53 @@ module _ (b placeholder : List ℕ) (i : ℕ) {p : Part} (e : label_of b placeho
 
 -- ---- the outcomes of `label_source`
 
-module _ (b placeholder : List ℕ) (i : ℕ) {x : ParseReply} (e : parse_reply_of x ≡ opened b) where
-  pub source_refused : {f : MatError} → x ≡ parse.Error f → label_reply_of (reply.Error f) ≡ label_of b placeholder i
-  unfolding label_of
-  source_refused g = rw (reply_is parse_reply_of e g)
+module _ (b placeholder : List ℕ) (i : ℕ) {w : FileWrapper} (o : ok w ≡ opened b) where
+  pub heap_inside : w.offsets.o0 ≤ length b
+  heap_inside = omega (arith, parsed o)
 
-  module _ {w : FileWrapper} (g : x ≡ parse.Parsed w) where
-    pub source_outside : w.names < i → label_reply_of (reply.Error (NameIndexOutOfRange i)) ≡ label_of b placeholder i
-    source_outside h = sym (outside b placeholder i (reply_is parse_reply_of e g) h)
+  pub source_zero : i ≡ 0 → {p : Part} → p ≡ placeholder_part (length placeholder) → ok p ≡ label_of b placeholder i
+  source_zero z u = ap ok u ∙ sym (ap (label_of b placeholder) z ∙ label_zero b placeholder (sym o))
 
-    pub heap_inside : w.offsets.o0 ≤ length b
-    heap_inside = omega (arith, opens b w (reply_is parse_reply_of e g))
+  module _ {u : Unit {0}} (c : ok u ≡ check_name w i) (named : i ≡ 0 → ⊥) {start : ℕ} (s : HasPieceAt b w.offsets.o0 i start) where
+    abbrev rest : List ℕ
+    rest = take (w.offsets.o0 - start) (drop start b)
 
-    pub source_zero : {m : Result Part} → i ≡ 0 → m ≡ ok (placeholder_part (length placeholder)) → m ≡ label_of b placeholder i
-    source_zero z u = u ∙ sym (ap (label_of b placeholder) z ∙ label_zero b placeholder (reply_is parse_reply_of e g))
+    below : i ≤ w.names
+    below = leb-true i w.names (check_is 11 (leb i w.names) i (sym c))
 
-    module _ (h : i ≤ w.names) (some : i ≡ 0 → ⊥) {start : ℕ} (s : HasPieceAt b w.offsets.o0 i start) (v : TextLength)
-        (said : length_of v ≡ terminated_length (take (w.offsets.o0 - start) (drop start b))) where
-      own : before_zero (take (w.offsets.o0 - start) (drop start b)) ≡ own_bytes b w i
-      own = ap before_zero (part_slice start w.offsets.o0 b s.inside) ∙ starts_name some s
+    own : before_zero rest ≡ own_bytes b w i
+    own = ap before_zero (part_slice start w.offsets.o0 b s.inside) ∙ starts_name named s
 
-      pub source_ill_formed : v ≡ text_length.IllFormed → label_reply_of (reply.Error (NameIllFormed i)) ≡ label_of b placeholder i
-      source_ill_formed f = sym (ill_formed_lem b placeholder i (reply_is parse_reply_of e g) h (ap scalars8 (sym own) ∙ terminated_not _ said f))
+    pub source_ill_formed : None ≡ terminated_length rest → error (record { number = 35; place = i }) ≡ label_of b placeholder i
+    source_ill_formed e = sym (ill_formed_lem b placeholder i (sym o) below (ap scalars8 (sym own) ∙ terminated_not rest e refl))
 
-      module _ {n : ℕ} (f : v ≡ text_length.Length n) where
-        told : label_of b placeholder i ≡ ok (name_part b placeholder w i)
-        told = well_formed b placeholder i (reply_is parse_reply_of e g) h (ap scalars8 (sym own) ∙ (terminated_is _ said f).1.0)
+    module _ {n : ℕ} (e : Some n ≡ terminated_length rest) where
+      told : label_of b placeholder i ≡ ok (name_part b placeholder w i)
+      told = well_formed b placeholder i (sym o) below (ap scalars8 (sym own) ∙ (terminated_is rest e refl).1.0)
 
-        bytes : n ≡ length (own_bytes b w i)
-        bytes = (terminated_is _ said f).1.1 ∙ ap length own
+      bytes : n ≡ length (own_bytes b w i)
+      bytes = (terminated_is rest e refl).1.1 ∙ ap length own
 
-        pub source_empty : {m : Result Part} → n ≡ 0 → m ≡ ok (placeholder_part (length placeholder)) → m ≡ label_of b placeholder i
-        source_empty z u = u ∙ sym (told ∙ ap ok (simp (eq-eqb (length (own_bytes b w i)) 0 (sym bytes ∙ z))))
+      pub source_empty : n ≡ 0 → {p : Part} → p ≡ placeholder_part (length placeholder) → ok p ≡ label_of b placeholder i
+      source_empty z u = ap ok u ∙ sym (told ∙ ap ok (simp (eq-eqb (length (own_bytes b w i)) 0 (sym bytes ∙ z))))
 
-        pub source_blob : (n ≡ 0 → ⊥) → label_reply_of (reply.Part (record { source = source.Blob; start = start; length = n })) ≡ label_of b placeholder i
-        source_blob m =
-            let k : start ≡ name_start b w.offsets.o0 i = starts_place heap_inside s in
-            sym (told ∙ ap ok (simp (ne_eqb (length (own_bytes b w i)) 0 (λ z. m (bytes ∙ z))) (rw (sym bytes, k))))
+      pub source_blob : (n ≡ 0 → ⊥) → ok (record { source = source.Blob; start = start; length = n }) ≡ label_of b placeholder i
+      source_blob m =
+          let k : start ≡ name_start b w.offsets.o0 i = starts_place heap_inside s in
+          sym (told ∙ ap ok (simp (ne_eqb (length (own_bytes b w i)) 0 (λ z. m (bytes ∙ z))) (rw (sym bytes, k))))
 
 -- ---- the outcomes of `label`
 
-module _ (b placeholder : List ℕ) (i : ℕ) {x : LabelReply} {p : Part} (e : label_reply_of x ≡ label_of b placeholder i) (g : x ≡ reply.Part p) where
-  given : label_of b placeholder i ≡ ok p
-  given = reply_is label_reply_of e g
-
+module _ (b placeholder : List ℕ) (i : ℕ) {p : Part} (e : ok p ≡ label_of b placeholder i) where
   pub blob_fits : p.source ≡ source.Blob → p.start + p.length ≤ length b
   blob_fits s =
-      let a = accepted b placeholder i given in
+      let a = accepted b placeholder i (sym e) in
       let t = stored a s in
       omega (arith, t, name_inside (named_in a) t.least, (named_in a).inside)
 
   pub placeholder_fits : p.source ≡ source.Placeholder → p.start + p.length ≤ length placeholder
   placeholder_fits s =
-      let a = accepted b placeholder i given in
+      let a = accepted b placeholder i (sym e) in
       let q = in_placeholder b placeholder a.wrapper i a.is s in
       omega (arith, ap (λ (y : Part). y.start) q, ap (λ (y : Part). y.length) q)
 
@@ -266,12 +246,3 @@ module _ (b placeholder : List ℕ) (i : ℕ) {x : LabelReply} {p : Part} (e : l
       by : (s : Source) → p.source ≡ s → p.start + p.length ≤ length b + length placeholder
       by source.Blob s = omega (arith, blob_fits s)
       by source.Placeholder s = omega (arith, placeholder_fits s)
-
-module _ (blob placeholder : Bor (List ℕ)) {r : Bor (List ℕ)} (i : ℕ) {x : LabelReply} (e : label_reply_of x ≡ label_of blob.now placeholder.now i) where
-  -- one law for the parts of both buffers
-  pub part_given :
-      {p : Part} → x ≡ reply.Part p → {s : Source} → p.source ≡ s
-      → IsPart p.start (p.start + p.length - p.start) (buffer_of s blob placeholder) r → IsLabel blob placeholder i r
-  part_given {p} g {s} is w =
-      let z : p.start + p.length - p.start ≡ p.length = omega arith in
-      rw (reply_is label_reply_of e g, is) (rw z at w)

@@ -1,42 +1,44 @@
 -- The index of the blocks of both regions, and the cursors of their walks.
 -- Assumes nothing.
-use mathlib.Core.Path.{◌≡◌, refl, ap, ◌∙◌, subst}
+use mathlib.Core.Path.{◌≡◌, refl, ap, ◌∙◌}
 use mathlib.Core.List.{List}
-use Prim.Native.Nat.{ℕ, ◌+◌, ◌-◌, ◌*◌, ◌/◌, ◌%◌, ◌^◌, ◌≤◌, ◌<◌}
-use native.Mathlib.Nat.{add-mul, div-mul-le_self, le-div_iff_mul-le, lt_of_mul-lt-mul_right, div-add-mod'}
+use Prim.Native.Nat.{ℕ, ◌+◌, ◌-◌, ◌*◌, ◌/◌, ◌≤◌, ◌<◌}
+use native.Mathlib.Nat.{add-mul, mul-le-mul_right, div-mul-le_self, le-div_iff_mul-le, lt_of_mul-lt-mul_right}
 use native.Mathlib.Omega.{arith}
 use borrow.Author.Tests.{eqb-true, eqb-false}
 use lib.Dec.{eqb}
 use lib.ListN.{length, get_or, set, length-set}
 use lib.Seq.{get_or-set_same, get_or-set_other}
+use Rattle.std.specs.Int.{div_ceil}
+use Rattle.std.proofs.lemmas.Grind.{div_ceil_times}
 use Rattle.text.proofs.TestLaws.{either}
 use Rattle.reader.specs.Blocks.{block_at}
 use Rattle.reader.specs.Stages.Blocks.{HasBlock}
-use Rattle.reader.specs.Stages.Listing.{PlanFor, IsPlan, first_entry, index_entry, IsEntry, Fills, IsCursor, cursor_at, cursor_from, cursor_of, with_cursor, first_cursors, AreCursors, EntryInside, Nearest, ToBlock, IsListing, HasIndex}
+use Rattle.reader.specs.Stages.Listing.{first_entry, index_entry, IsEntry, Fills, IsCursor, cursor_at, cursor_from, cursor_of, with_cursor, first_cursors, AreCursors, EntryInside, Nearest, ToBlock, Indexes}
 use Rattle.reader.specs.Objects.{region_start, region_blocks}
-use Rattle.reader.specs.declared.file_wrapper.FileWrapper.{FileWrapper}
+use Rattle.reader.specs.Stages.Objects.{number_of}
+use Rattle.reader.specs.declared.file_wrapper.Metadata.{Metadata}
 use Rattle.reader.specs.declared.listing.Cursor.{Cursor}
 use Rattle.reader.specs.declared.listing.Cursors.{Cursors}
-use Rattle.reader.specs.declared.listing.Listing.{Listing}
-use Rattle.reader.specs.declared.listing.Listing.TheVariants as listing
-use Rattle.reader.specs.declared.listing.Plan.{Plan}
+use Rattle.reader.specs.declared.plan.Plan.{Plan}
 use Rattle.reader.specs.declared.objects.BlockId.{BlockId}
-use Rattle.reader.proofs.blocks.Laws.{blocks_few, block_sum, block_from}
+use Rattle.reader.specs.declared.objects.Region.{Region}
+use Rattle.reader.specs.declared.objects.Region.TheVariants.{Saved, Normal}
+use Rattle.reader.proofs.blocks.Laws.{block_sum, block_from}
 use Rattle.reader.proofs.objects.Laws.{region_has}
 
 -- ---- the cursors of either region
 
-module _ {b : List ℕ} {w : FileWrapper} where
-  region_cursor : {cs : Cursors} → AreCursors b w cs → (g : ℕ) → IsCursor b (region_start w g) (cursor_of cs g)
-  region_cursor a g = either (eqb g 0) (λ t. simp t a.saveobj) (λ t. simp t a.normalobj)
+module _ {m : Metadata} where
+  region_cursor : {cs : Cursors} → AreCursors m cs → (g : Region) → IsCursor m.blob.now (region_start m.w (number_of g)) (cursor_of cs g)
+  region_cursor a Saved = a.saveobj
+  region_cursor a Normal = a.normalobj
 
-  pub region_with : {cs : Cursors} → AreCursors b w cs → (g : ℕ) {c : Cursor} → IsCursor b (region_start w g) c → AreCursors b w (with_cursor cs g c)
-  region_with a g =
-      either (eqb g 0)
-      (λ t. simp t (λ i. record { saveobj = i; normalobj = a.normalobj }))
-      (λ t. simp t (λ i. record { saveobj = a.saveobj; normalobj = i }))
+  pub region_with : {cs : Cursors} → AreCursors m cs → (g : Region) {c : Cursor} → IsCursor m.blob.now (region_start m.w (number_of g)) c → AreCursors m (with_cursor cs g c)
+  region_with a Saved i = record { saveobj = i; normalobj = a.normalobj }
+  region_with a Normal i = record { saveobj = a.saveobj; normalobj = i }
 
-  pub cursors_start : {cs : Cursors} → cs ≡ first_cursors w → AreCursors b w cs
+  pub cursors_start : {cs : Cursors} → cs ≡ first_cursors m.w → AreCursors m cs
   unfolding block_at
   cursors_start e = rw e (record { saveobj = record { is = refl }; normalobj = record { is = refl } })
 
@@ -51,140 +53,101 @@ module _ {b : List ℕ} {start : ℕ} {c : Cursor} (is : IsCursor b start c) {k 
       let z : c.block + (k - c.block) ≡ k = omega arith in
       rw (is.is, block_sum 12 b start c.block (k - c.block), z)
 
--- ---- the plan
-
-module _ (w : FileWrapper) (s : ℕ) (room : (w.saveobj_blocks + w.normalobj_blocks < 8190 * s) × (s ≤ w.saveobj_blocks + w.normalobj_blocks + 1)) where
-  pub plan_made : w.saveobj_blocks + w.normalobj_blocks ≤ 16777216 → PlanFor w (record { w = w; stride = s; normalobj = w.saveobj_blocks / s + 1 })
-  plan_made few =
-      let x = div-mul-le_self w.saveobj_blocks s in
-      let y = div-mul-le_self w.normalobj_blocks s in
-      let z = add-mul (w.saveobj_blocks / s) (w.normalobj_blocks / s) s in
-      let l : w.saveobj_blocks / s + w.normalobj_blocks / s < 8190 = lt_of_mul-lt-mul_right s (omega (arith, x, y, z)) in
-      record { is = refl; least = omega arith; most = omega arith; apart = omega arith; room = omega (arith, l) }
-
 -- ---- filling a region's entries
 
 -- the walk stands at or before the block of entry j, and the entries before j are filled
-pub record Filling (b : List ℕ) (p : Plan) (g : ℕ) (index index' : List ℕ) (c : Cursor) (j block : ℕ) : Type 0 where
-  pub cursor : IsCursor b (region_start p.w g) c
-  pub behind : c.block ≤ block
-  pub is : block ≡ j * p.stride
-  pub few : block < region_blocks p.w g + p.stride
+pub record Filling (p : Plan) (g : Region) (index index' : List ℕ) (c : Cursor) (j : ℕ) : Type 0 where
+  pub cursor : IsCursor p.metadata.blob.now (region_start p.metadata.w (number_of g)) c
+  pub behind : c.block ≤ j * p.stride
   pub size : length index' ≡ 8192
   pub kept : (k : ℕ) → k < first_entry p g → get_or index' k 0 ≡ get_or index k 0
-  pub entries : (i : ℕ) → i < j → IsEntry b index' p g i
+  pub entries : (i : ℕ) → i < j → IsEntry index' p g i
 
-module _ {b : List ℕ} {p : Plan} (plan : IsPlan b p) (g : ℕ) where
-  blocks_room : first_entry p g + region_blocks p.w g / p.stride < 8192
-  blocks_room =
-      either (eqb g 0)
-      (λ t. simp t (omega (arith, plan.plan.apart, plan.plan.room)))
-      (λ t. simp t (omega (arith, plan.plan.room)))
+blocks_room : (p : Plan) (g : Region) → first_entry p g + region_blocks p.metadata.w (number_of g) / p.stride < 8192
+blocks_room p Saved = omega (arith, p.fits.apart, p.fits.room)
+blocks_room p Normal = omega (arith, p.fits.room)
 
-  blocks_most : region_blocks p.w g ≤ 16777216
-  blocks_most =
-      let o = plan.opens in
-      let s = blocks_few 12 b p.w.offsets.o1 p.w.offsets.o2 p.w.saveobj_blocks o.saveobj_blocks in
-      let n = blocks_few 12 b p.w.offsets.o3 p.w.offsets.o4 p.w.normalobj_blocks o.normalobj_blocks in
-      either (eqb g 0)
-      (λ t. simp t (omega (arith, o, s)))
-      (λ t. simp t (omega (arith, o, n)))
+module _ (p : Plan) (g : Region) where
+  abbrev blob : List ℕ
+  blob = p.metadata.blob.now
 
-  module _ {index : List ℕ} where
-    pub filling_start : length index ≡ 8192 → {start : ℕ} → start ≡ region_start p.w g → Filling b p g index index (record { block = 0; at = start }) 0 0
-    unfolding block_at
-    filling_start l s = record {
-      cursor = record { is = s };
-      behind = omega arith;
-      is = omega arith;
-      few = omega (arith, plan.plan.least);
-      size = l;
-      kept = λ k h. refl;
-      entries = λ i h. absurd (omega arith);
-    }
+  -- the entries of the region: one for each stride that its blocks begin
+  module _ {n : ℕ} (e : n ≡ region_blocks p.metadata.w (number_of g)) {m : ℕ} (d : m ≡ div_ceil n p.stride) where
+    times : (region_blocks p.metadata.w (number_of g) ≤ m * p.stride) × (m * p.stride < region_blocks p.metadata.w (number_of g) + p.stride)
+    times = rw (d, e) (div_ceil_times (region_blocks p.metadata.w (number_of g)) p.stride p.fits.least)
 
-    module _ {index' : List ℕ} {c : Cursor} {j block : ℕ} (f : Filling b p g index index' c j block) {n : ℕ} (e : n ≡ region_blocks p.w g) where
-      module _ (h : block < n) where
-        below : block < region_blocks p.w g
-        below = rw e at h
+    below : {j : ℕ} → j < m → j * p.stride < region_blocks p.metadata.w (number_of g)
+    below {j} h =
+        let z = add-mul j 1 p.stride in
+        let l : (j + 1) * p.stride ≤ m * p.stride = mul-le-mul_right p.stride (omega arith) in
+        omega (arith, times, z, l)
 
-        pub filling_has : HasBlock 12 b c.at (block - c.block)
-        filling_has = cursor_has f.cursor f.behind (region_has plan.opens g below)
+    has_entry : {j : ℕ} → j * p.stride < region_blocks p.metadata.w (number_of g) → j < m
+    has_entry {j} h = lt_of_mul-lt-mul_right p.stride (omega (arith, times))
+
+    module _ {index index' : List ℕ} {c : Cursor} {j : ℕ} (f : Filling p g index index' c j) where
+      module _ (h : j < m) where
+        pub filling_has : HasBlock 12 blob c.at (j * p.stride - c.block)
+        filling_has = cursor_has f.cursor f.behind (region_has p.metadata.opens g (below h))
 
         pub filling_room : {first : ℕ} → first ≡ first_entry p g → first + j < 8192
         filling_room q =
-            let l : j * p.stride ≤ region_blocks p.w g = omega (arith, f.is, below) in
-            let d = (le-div_iff_mul-le {x = j} {y = region_blocks p.w g} plan.plan.least).1 l in
-            omega (arith, blocks_room, d)
+            let l = (le-div_iff_mul-le {x = j} {y = region_blocks p.metadata.w (number_of g)} p.fits.least).1 (omega (arith, below h)) in
+            omega (arith, blocks_room p g, l)
 
-        pub filling_place : {first : ℕ} → first ≡ first_entry p g → (first + j) * 4 < 2 ^ 64
-        filling_place q = omega (arith, filling_room q)
-
-        module _ {c' : Cursor} (there : c' ≡ cursor_from b c block) where
-          is_there : c' ≡ cursor_at b (region_start p.w g) block
+        module _ {c' : Cursor} (there : c' ≡ cursor_from blob c (j * p.stride)) where
+          is_there : c' ≡ cursor_at blob (region_start p.metadata.w (number_of g)) (j * p.stride)
           is_there = there ∙ cursor_there f.cursor f.behind
 
-          pub filling_turn : {first : ℕ} → first ≡ first_entry p g → Filling b p g index (set index' (first + j) c'.at) c' (j + 1) (block + p.stride)
+          pub filling_turn : {first : ℕ} → first ≡ first_entry p g → Filling p g index (set index' (first + j) c'.at) c' (j + 1)
           unfolding index_entry
           filling_turn {first} q =
-              let at_block : c'.at ≡ block_at 12 b (region_start p.w g) block = ap (λ (x : Cursor). x.at) is_there in
-              let z : c'.block ≡ block = ap (λ (x : Cursor). x.block) is_there in
-              let m = add-mul j 1 p.stride in
+              let at_block : c'.at ≡ block_at 12 blob (region_start p.metadata.w (number_of g)) (j * p.stride) = ap (λ (x : Cursor). x.at) is_there in
+              let z : c'.block ≡ j * p.stride = ap (λ (x : Cursor). x.block) is_there in
+              let y = add-mul j 1 p.stride in
               let room : first + j < length index' = omega (arith, f.size, filling_room q) in
               record {
                 cursor = record { is = rw z at_block };
-                behind = omega arith;
-                is = omega (arith, f.is, m);
-                few = omega (arith, below);
+                behind = omega (arith, z, y);
                 size = rw length-set f.size;
                 kept = λ k l. get_or-set_other index' (first + j) k c'.at 0 (λ (w : k ≡ first + j). omega (arith, q, w, l)) ∙ f.kept k l;
                 entries = λ i l. either (eqb i j)
-                    (λ t. let y : i ≡ j = eqb-true i j t in rw (y, ← q) (get_or-set_same index' (first + j) c'.at 0 room ∙ at_block ∙ ap (block_at 12 b (region_start p.w g)) f.is))
+                    (λ t. let y : i ≡ j = eqb-true i j t in rw (y, ← q) (get_or-set_same index' (first + j) c'.at 0 room ∙ at_block))
                     (λ t. let y : i ≡ j → ⊥ = eqb-false i j t in get_or-set_other index' (first + j) (first_entry p g + i) c'.at 0 (λ (w : first_entry p g + i ≡ first + j). y (omega (arith, q, w))) ∙ f.entries i (omega (arith, y)));
               }
 
+      pub filling_last : m ≤ j → Fills p g index index'
+      filling_last h = record { size = f.size; kept = f.kept; entries = λ i l. f.entries i (omega (arith, has_entry l)) }
+
 -- ---- both regions
 
-pub index_plan : (b : List ℕ) {x : Listing} {p : Plan} {n : ℕ} → x ≡ listing.Objects p n → IsListing b x → IsPlan b p
-index_plan b g l = (subst (IsListing b) g l).0.plan
-
-pub index_filled : {b : List ℕ} {x : Listing} {p : Plan} {n : ℕ} → x ≡ listing.Objects p n → IsListing b x → {index one two : List ℕ} → Fills b p 0 index one → Fills b p 1 one two → HasIndex b x two
+pub index_filled : {p : Plan} {index one two : List ℕ} → Fills p Saved index one → Fills p Normal one two → Indexes p two
 unfolding index_entry
-index_filled {b} {x} {p} {n} g l {index} {one} {two} f s =
-    let q = index_plan b g l in
-    rw g (record {
-      size = s.size;
-      entries = λ r j h. either (eqb r 0)
-          (λ t. simp t (
-          let k : j * p.stride < p.w.saveobj_blocks = simp t at h in
-          let d = (le-div_iff_mul-le {x = j} {y = p.w.saveobj_blocks} q.plan.least).1 (omega (arith, k)) in
-          s.kept (0 + j) (omega (arith, d, q.plan.apart)) ∙ f.entries j k))
-          (λ t. simp t (s.entries j (simp t at h)));
-    })
+index_filled {p} {one = one} {two = two} f s = record { size = s.size; entries = entries }
+  where
+    entries : (g : Region) (j : ℕ) → j * p.stride < region_blocks p.metadata.w (number_of g) → IsEntry two p g j
+    entries Saved j h =
+        let d = (le-div_iff_mul-le {x = j} {y = p.metadata.w.saveobj_blocks} p.fits.least).1 (omega (arith, h)) in
+        s.kept (0 + j) (omega (arith, d, p.fits.apart)) ∙ f.entries j h
+    entries Normal j h = s.entries j h
 
 -- ---- the walk to a block
 
-module _ {index : List ℕ} {p : Plan} {cs : Cursors} {k : BlockId} where
-  pub near_entry : {first : ℕ} → first ≡ first_entry p k.region → {a : ℕ} → a ≡ get_or index (first + k.id / p.stride) 0 → Nearest index p cs k (record { block = k.id - k.id % p.stride; at = a })
-  unfolding index_entry
-  near_entry q e =
-      let z : k.id - k.id % p.stride ≡ k.id / p.stride * p.stride = omega (arith, div-add-mod' k.id p.stride) in
-      record { behind = omega arith; is = λ b start i d. record { is = rw (e, q, z) d } }
-
-module _ {b index : List ℕ} {p : Plan} {cs : Cursors} {k : BlockId} (to : ToBlock b index p cs k) where
+module _ {index : List ℕ} {p : Plan} {cs : Cursors} {k : BlockId} (to : ToBlock index p cs k) where
   pub block_near : EntryInside p k
   block_near =
-      let l : k.id / p.stride ≤ region_blocks p.w k.region / p.stride = (le-div_iff_mul-le {x = k.id / p.stride} {y = region_blocks p.w k.region} to.plan.plan.least).1 (omega (arith, div-mul-le_self k.id p.stride, to.below)) in
-      record { least = to.plan.plan.least; room = omega (arith, l, blocks_room to.plan k.region) }
+      let n = region_blocks p.metadata.w (number_of k.region) in
+      let l : k.id / p.stride ≤ n / p.stride = (le-div_iff_mul-le {x = k.id / p.stride} {y = n} p.fits.least).1 (omega (arith, div-mul-le_self k.id p.stride, to.below)) in
+      omega (arith, l, blocks_room p k.region)
 
   module _ {c : Cursor} (near : Nearest index p cs k c) where
-    near_is : IsCursor b (region_start p.w k.region) c
+    near_is : IsCursor p.metadata.blob.now (region_start p.metadata.w (number_of k.region)) c
     near_is =
-        let l : k.id / p.stride * p.stride < region_blocks p.w k.region = omega (arith, div-mul-le_self k.id p.stride, to.below) in
-        near.is b (region_start p.w k.region) (region_cursor to.cursors k.region) (to.indexes.entries k.region (k.id / p.stride) l)
+        let l : k.id / p.stride * p.stride < region_blocks p.metadata.w (number_of k.region) = omega (arith, div-mul-le_self k.id p.stride, to.below) in
+        near.is p.metadata.blob.now (region_start p.metadata.w (number_of k.region)) (region_cursor to.cursors k.region) (to.indexes.entries k.region (k.id / p.stride) l)
 
-    pub near_has : HasBlock 12 b c.at (k.id - c.block)
-    near_has = cursor_has near_is near.behind (region_has to.plan.opens k.region to.below)
+    pub near_has : HasBlock 12 p.metadata.blob.now c.at (k.id - c.block)
+    near_has = cursor_has near_is near.behind (region_has p.metadata.opens k.region to.below)
 
-    pub block_found : {r : Cursor} → r ≡ cursor_from b c k.id → r ≡ cursor_at b (region_start p.w k.region) k.id
+    pub block_found : {r : Cursor} → r ≡ cursor_from p.metadata.blob.now c k.id → r ≡ cursor_at p.metadata.blob.now (region_start p.metadata.w (number_of k.region)) k.id
     block_found e = e ∙ cursor_there near_is near.behind

@@ -1,22 +1,33 @@
--- Comparing a piece of the name heap with a text while its end is looked for.
+-- Comparing a piece of the name heap with a text: by `==`, and while its end is looked for.
 -- Assumes nothing.
-use mathlib.Core.Path.{◌≡◌, sym, ap, ap₂, ◌∙◌}
-use mathlib.Core.Bool.{false}
+use mathlib.Core.Path.{◌≡◌, refl, sym, ap, ap₂, ◌∙◌}
+use mathlib.Core.Bool.{Bool, false, ◌&&◌}
 use mathlib.Core.List.{List, [], ◌∷◌, ◌++◌}
 use Prim.Native.Nat.{ℕ, suc, ◌+◌, ◌-◌, ◌≤◌, ◌<◌}
 use native.Mathlib.Omega.{arith}
 use borrow.Author.Tests.{eq-eqb, eqb-true, eqb-false}
 use lib.Dec.{eqb}
 use lib.ListN.{length, get_or, take}
+use lib.Pointwise.{pointwise}
 use lib.Seq.{slice, slice_empty, length-slice, get_or-drop, get_or-take, take-suc, take_all}
 use Rattle.text.specs.Buffer.{same}
 use Rattle.text.proofs.BufferLaws.{slice_more}
 use Rattle.text.proofs.SameLaws.{same_refl, same_not, same_empty}
 use Rattle.text.proofs.TestLaws.{either}
 use Rattle.reader.specs.Names.{name_bytes}
-use Rattle.reader.specs.Stages.Names.{pieces_from, heap_pieces, FirstPiece, ComparesPiece, HasName, HasPieceAt, PieceBegins}
+use Rattle.reader.specs.Stages.Names.{pieces_from, heap_pieces, FirstPiece, ComparesPiece, PieceBegins}
 use Rattle.reader.specs.declared.names.Compared.{Compared}
 use Rattle.reader.proofs.names.Pieces.{slice_split, ahead, Running, run_start, run_byte, run_zero, run_last, stand_name}
+
+-- what `==` answers
+pub compared : (xs ys : List ℕ) → pointwise eqb xs ys ≡ same xs ys
+unfolding same
+compared [] [] = refl
+compared [] (y ∷ ys) = refl
+compared (x ∷ xs) [] = refl
+compared (x ∷ xs) (y ∷ ys) = ap (λ (t : Bool). eqb x y && t) (compared xs ys)
+
+-- ---- while its end is looked for
 
 -- a piece of another length than wanted
 other_length : {b : List ℕ} {start e j : ℕ} (wanted : List ℕ) → FirstPiece b start e j → e ≤ length b → (j - start ≡ length wanted → ⊥)
@@ -86,16 +97,24 @@ module _ {b : List ℕ} {start e : ℕ} {wanted : List ℕ} where
             d (sym (get_or-drop start (take j b) n 0 ∙ get_or-take j b (start + n) 0 (omega arith)) ∙ ap (λ (xs : List ℕ). get_or xs n 0) k)));
       }
 
-      pub agree_last : length wanted ≤ n → ComparesPiece b start e wanted (record { equal = eqb j (start + n); end = j })
-      agree_last h =
-          let z : n ≡ length wanted = omega (arith, a.few) in
-          let whole : slice start (start + n) b ≡ wanted = a.is ∙ take_all n wanted h in
+    -- the whole text stands there
+    module _ (h : length wanted ≤ n) where
+      all : n ≡ length wanted
+      all = omega (arith, a.few)
+
+      whole : slice start (start + length wanted) b ≡ wanted
+      whole = ap (λ (i : ℕ). slice start (start + i) b) (sym all) ∙ a.is ∙ take_all n wanted h
+
+      pub agree_last : {j : ℕ} → FirstPiece b (start + length wanted) e j → ComparesPiece b start e wanted (record { equal = eqb j (start + length wanted); end = j })
+      agree_last {j} f =
+          let g : FirstPiece b start e j = goes_on (rw all f) in
           record {
-            piece = goes_on;
+            piece = g;
             is =
-                either (eqb j (start + n))
-                (λ t. t ∙ sym (ap (λ (xs : List ℕ). same xs wanted) (ap (λ (i : ℕ). slice start i b) (eqb-true j (start + n) t) ∙ whole) ∙ same_refl wanted))
-                (λ t. t ∙ sym (other_length wanted goes_on a.run.inside (λ y. eqb-false j (start + n) t (omega (arith, f.order)))));
+                either (eqb j (start + length wanted))
+                (λ t. t
+                ∙ sym (ap (λ (xs : List ℕ). same xs wanted) (ap (λ (i : ℕ). slice start i b) (eqb-true j (start + length wanted) t) ∙ whole) ∙ same_refl wanted))
+                (λ t. t ∙ sym (other_length wanted g a.run.inside (λ y. eqb-false j (start + length wanted) t (omega (arith, f.order)))));
           }
 
 -- ---- a name
@@ -109,8 +128,3 @@ module _ (b : List ℕ) (e : ℕ) {x : ℕ} (wanted : List ℕ) where
   pub piece_equal : (x ≡ 0 → ⊥) → x ≤ length (heap_pieces b e) → {start : ℕ} → PieceBegins b e x start → {c : Compared} → ComparesPiece b start e wanted c
       → c.equal ≡ same (name_bytes b e x) wanted
   piece_equal some h s k = k.is ∙ ap (λ (xs : List ℕ). same xs wanted) (stand_name s some h k.piece)
-
-module _ {b : List ℕ} {e index : ℕ} (wanted : List ℕ) (n : HasName b e index) where
-  pub stored_piece : (index ≡ 0 → ⊥) → {start : ℕ} → HasPieceAt b e index start → {c : Compared} → ComparesPiece b start e wanted c
-      → c.equal ≡ same (name_bytes b e index) wanted
-  stored_piece some s k = piece_equal b e wanted some n.most s.stands k

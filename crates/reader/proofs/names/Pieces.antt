@@ -14,7 +14,7 @@ use Rattle.text.proofs.BufferLaws.{slice_more}
 use Rattle.text.proofs.utf8.Terminated.{before_none, before_zero_lem, before_more}
 use Rattle.text.proofs.TestLaws.{either}
 use Rattle.reader.specs.Names.{onto, pieces, heap_of, name_bytes, length_with_zeros, name_start}
-use Rattle.reader.specs.Stages.Names.{pieces_from, heap_pieces, zeros, Counted, Skips, HasPiece, HasPieceAt, FirstPiece, PieceBegins, HasName, IsName}
+use Rattle.reader.specs.Stages.Names.{pieces_from, heap_pieces, zeros, Counted, Skips, HasPiece, HasPieceAt, FirstPiece, PieceBegins, HasName}
 use Rattle.reader.specs.declared.names.Skipped.{Skipped}
 
 length_onto : (x : ℕ) (ps : List (List ℕ)) → 1 ≤ length ps → length (onto x ps) ≡ length ps
@@ -314,10 +314,6 @@ module _ {b : List ℕ} {e : ℕ} where
 -- ---- a name
 
 module _ {b : List ℕ} {e index : ℕ} (n : HasName b e index) where
-  pub name_empty : index ≡ 0 → IsName b e index (record { start = 0; end = 0 })
-  unfolding name_bytes
-  name_empty z = record { order = omega arith; inside = omega arith; is = slice_empty 0 b ∙ sym (simp (eq-eqb index 0 z)) }
-
   module _ (least : 1 ≤ index) where
     pub named_heap : 40 ≤ e
     named_heap = heap_begins b (omega (arith, n.most))
@@ -329,8 +325,8 @@ module _ {b : List ℕ} {e index : ℕ} (n : HasName b e index) where
     pub has_piece : HasPiece b e index
     has_piece = record { inside = n.inside; least = omega arith; most = n.most }
 
-    pub name_found : {i j : ℕ} → HasPieceAt b e index i → FirstPiece b i e j → IsName b e index (record { start = i; end = j })
-    name_found s f = record { order = f.order; inside = omega (arith, f.inside, n.inside); is = stand_name s.stands some n.most f }
+    pub name_found : {i j : ℕ} → HasPieceAt b e index i → FirstPiece b i e j → slice i j b ≡ name_bytes b e index
+    name_found s f = stand_name s.stands some n.most f
 
 -- ---- where a piece begins
 

@@ -2,7 +2,7 @@
 -- Assumes nothing.
 use mathlib.Core.Path.{◌≡◌, refl, sym, ap, ◌∙◌}
 use mathlib.Core.List.{List, [], ◌∷◌, ◌++◌, map}
-use mathlib.Core.Option.{some}
+use Rattle.std.specs.Prelude.{Some}
 use Prim.Native.Nat.{ℕ, zero, suc, ◌-◌, ◌≤◌}
 use native.Mathlib.Omega.{arith}
 use borrow.Author.Tests.{ne_eqb}
@@ -69,7 +69,7 @@ get_d_encoded [] k = sym utf8s_nil
 get_d_encoded (p ∷ ps) zero = refl
 get_d_encoded (p ∷ ps) (suc k) = get_d_encoded ps k
 
-pub sound_piece : (s : List ℕ) {vs : List ℕ} → scalars8 s ≡ some vs → (k : ℕ) → scalars8 (get_or (pieces s) k []) ≡ some (get_or (pieces vs) k [])
+pub sound_piece : (s : List ℕ) {vs : List ℕ} → scalars8 s ≡ Some vs → (k : ℕ) → scalars8 (get_or (pieces s) k []) ≡ Some (get_or (pieces vs) k [])
 sound_piece s {vs} e k =
     let t = spelled s e in
     ap (λ (x : List ℕ). scalars8 (get_or (pieces x) k [])) t.bytes
@@ -83,7 +83,7 @@ pub empty_sound : (b : List ℕ) (end : ℕ) → (shown_name b end 0).replaced �
 unfolding name_bytes
 empty_sound b end = sound_replaced [] scalars8_empty
 
-pub name_sound : (b : List ℕ) (end : ℕ) {vs : List ℕ} → scalars8 (heap_of b end) ≡ some vs → (i : ℕ) → (shown_name b end i).replaced ≡ 0
+pub name_sound : (b : List ℕ) (end : ℕ) {vs : List ℕ} → scalars8 (heap_of b end) ≡ Some vs → (i : ℕ) → (shown_name b end i).replaced ≡ 0
 unfolding name_bytes
 name_sound b end e i =
     equal_or i 0

@@ -3,34 +3,36 @@
 use mathlib.Core.Path.{◌≡◌, refl, sym, ap, ap₂, ◌∙◌, subst, fun_ext}
 use mathlib.Core.Bool.{Bool, true, false}
 use mathlib.Core.List.{List, [], ◌∷◌, ◌++◌, map}
-use Prim.Native.Nat.{ℕ, zero, suc, ◌+◌, ◌-◌, ◌≤◌, ◌<◌}
-use native.Mathlib.Numerals.{add-one}
+use Prim.Native.Nat.{ℕ, ◌+◌, ◌-◌, ◌≤◌, ◌<◌}
 use native.Mathlib.Omega.{arith}
-use borrow.Author.Tests.{eq-eqb, ne_eqb, lt-ltb, le-ltb, le-leb, lt-leb, leb-true, ltb-true, ltb-false}
+use borrow.Author.Tests.{lt-ltb, le-ltb, le-leb, lt-leb, leb-true, ltb-true, ltb-false}
 use lib.Dec.{eqb, leb, ltb}
 use lib.ListN.{length, get_or, take, drop, set, length-append, length-take, length-drop, length-map}
 use lib.Seq.{take_at, drop_at}
-use Rattle.text.specs.Replies.{validity_place}
+use Rattle.std.specs.Prelude.{Ok, Err, Result as Reply}
+use Rattle.std.specs.Result.{is_ok}
+use Rattle.std.proofs.lemmas.List.{take-map, get_or-map}
+use Rattle.text.specs.Replies.{error_place}
 use Rattle.text.specs.Result.{ok}
 use Rattle.text.specs.Utf8.{parts_from, first_ill_formed}
-use Rattle.text.specs.declared.utf8.Validity.{Validity}
-use Rattle.text.specs.declared.utf8.Validity.TheVariants as validity
+use Rattle.text.specs.declared.utf8.LossySize.{LossySize}
+use Rattle.text.specs.declared.utf8.Utf8Error.{Utf8Error}
 use Rattle.text.proofs.ResultLaws.{check_passed, check_is, seq_passed}
-use Rattle.text.proofs.TestLaws.{either, equal_or}
+use Rattle.text.proofs.TestLaws.{either}
 use Rattle.text.proofs.utf8.Lossy.{valid_scalars}
 use Rattle.reader.specs.Names.{heap_of, shown_bytes}
 use Rattle.reader.specs.Objects.{check_triple, check_triples, row_of, replaced_of}
-use Rattle.reader.specs.Stages.Find.{ToNames}
-use Rattle.reader.specs.Stages.Names.{heap_pieces, FirstPiece, PieceBegins, InBlob, IsSize}
-use Rattle.reader.specs.Stages.Opening.{Opens}
-use Rattle.reader.specs.Stages.Replacements.{no_count, count_below, count_in, recounted, CountsName, CountsNames, CountsChunk, SoundNames, CountsRows}
+use Rattle.reader.specs.Stages.Chunks.{ToNames, Looks, FillsTable}
+use Rattle.reader.specs.Stages.Names.{heap_pieces, FirstPiece, PieceBegins, IsSize}
+use Rattle.reader.specs.Stages.Replacements.{no_count, count_below, count_in, recounted, CountsChunk, SoundNames, CountsRows}
 use Rattle.reader.specs.declared.file_wrapper.FileWrapper.{FileWrapper}
-use Rattle.reader.specs.declared.names.PieceSize.{PieceSize}
+use Rattle.reader.specs.declared.file_wrapper.Metadata.{Metadata}
 use Rattle.reader.specs.declared.records.Triple.{Triple}
-use Rattle.reader.specs.declared.replacements.ChunkCount.{ChunkCount}
 use Rattle.reader.specs.declared.replacements.CountWalk.{CountWalk}
+use Rattle.reader.proofs.chunks.Laws.{in_chunk}
+use Rattle.reader.proofs.FrontLaws.{Fronts, front_next, front_turn}
 use Rattle.reader.proofs.NameLaws.{part_slice}
-use Rattle.reader.proofs.names.Pieces.{heap_begins, stand_inside, stand_name, stand_next}
+use Rattle.reader.proofs.names.Pieces.{heap_begins, stand_start, stand_inside, stand_empty, stand_name, stand_next}
 use Rattle.reader.proofs.names.Sound.{empty_sound, name_sound}
 
 -- ---- rows by the counts of their names
@@ -69,180 +71,144 @@ recount_all counts first e f (t ∷ ts) = ap₂ ◌∷◌ (recount_row counts fi
 
 -- ---- the count of one name
 
-module _ {b : List ℕ} {w : FileWrapper} {x start : ℕ} (n : ToNames b w x (x + 1) start) (least : 1 ≤ x) where
-  some : x ≡ 0 → ⊥
-  some z = omega arith
+module _ {m : Metadata} {x start : ℕ} (n : ToNames m x (x + 1) start) where
+  abbrev told : List ℕ → ℕ
+  told name = (shown_bytes name).replaced
 
-  declared : x ≤ length (heap_pieces b w.offsets.o0)
-  declared = omega (arith, n.few, n.opens.names)
+  pub counted_empty : x ≡ 0 → Looks m 0 told x (record { value = 0; any = false; next = start })
+  counted_empty z = record { is = rw z (sym (empty_sound m.blob.now m.w.offsets.o0)); none = λ e. refl; heap = stand_empty n.heap z }
 
-  pub count_inside : start ≤ w.offsets.o0
-  count_inside = stand_inside n.heap some declared
+  module _ (some : x ≡ 0 → ⊥) where
+    declared : x ≤ length (heap_pieces m.blob.now m.w.offsets.o0)
+    declared = omega (arith, n.few, m.opens.names)
 
-  module _ {e : ℕ} (f : FirstPiece b start w.offsets.o0 e) where
-    pub count_piece : InBlob b (record { start = start; end = e })
-    count_piece = record { order = f.order; inside = omega (arith, f.inside, n.opens); most = n.opens.most }
+    pub count_inside : start ≤ m.w.offsets.o0
+    count_inside = stand_inside n.heap some declared
 
-    pub counted_name : {s : PieceSize} → IsSize b (record { start = start; end = e }) s → CountsName b w x (record { replaced = s.replaced; next = e + 1 })
-    counted_name i = record {
-      is = i.replaced ∙ ap (λ (s : List ℕ). (shown_bytes s).replaced) (stand_name n.heap some declared f);
+    pub counted_name : {e : ℕ} → FirstPiece m.blob.now start m.w.offsets.o0 e → {s : LossySize} → IsSize (take (e - start) (drop start m.blob.now)) s
+        → Looks m 0 told x (record { value = s.replaced; any = ltb 0 s.replaced; next = e + 1 })
+    counted_name {e} f {s} i = record {
+      is = i.replaced ∙ ap told (part_slice start e m.blob.now f.order ∙ stand_name n.heap some declared f);
+      none = λ z. omega (arith, ltb-false 0 s.replaced z);
       heap = stand_next n.heap some declared f;
     }
 
--- ---- a count by the table
-
-module _ (counts : List ℕ) (first e i old : ℕ) where
-  pub in_before : i < first → old ≡ count_in counts first e i old
-  unfolding count_in
-  in_before h = simp (lt-leb first i h)
-
-  module _ (h : first ≤ i) where
-    pub in_after : e ≤ i → old ≡ count_in counts first e i old
-    unfolding count_in
-    in_after l = simp (le-leb first i h, le-ltb i e l)
-
-    pub in_here : i < e → get_or counts (i - first) 0 ≡ count_in counts first e i old
-    unfolding count_in
-    in_here l = simp (le-leb first i h, lt-ltb i e l)
-
--- ---- one row
-
-module _ (counts row : List ℕ) (first e : ℕ) {n : ℕ} (is : n ≡ count_in counts first e (get_or row 0 0) (get_or row 3 0)) where
-  pub recount_other : (get_or row 1 0 ≡ 0 → ⊥) → get_or row 0 0 ∷ get_or row 1 0 ∷ get_or row 2 0 ∷ n ∷ get_or row 4 0 ∷ [] ≡ recounted counts first e row
-  unfolding recounted
-  recount_other h = simp (ne_eqb (get_or row 1 0) 0 h, is)
-
-  pub recount_named : get_or row 1 0 ≡ 0 → {v : ℕ} → v ≡ count_in counts first e (get_or row 2 0) (get_or row 4 0)
-      → get_or row 0 0 ∷ get_or row 1 0 ∷ get_or row 2 0 ∷ n ∷ v ∷ [] ≡ recounted counts first e row
-  unfolding recounted
-  recount_named h {v} q = simp (eq-eqb (get_or row 1 0) 0 h, is, q)
-
 -- ---- the rows, one after another
 
--- f of the first i rows stands over them
-pub record Mapping (f : List ℕ → List ℕ) (n : ℕ) (rows₀ rows : List (List ℕ)) (i : ℕ) : Type 0 where
-  pub bound : i ≤ n
-  pub is : rows ≡ map f (take i rows₀) ++ drop i rows₀
+module _ (f : List ℕ → List ℕ) {rows₀ rows : List (List ℕ)} {i : ℕ} (m : Fronts (map f rows₀) rows₀ i rows) where
+  pub mapping_turn : i < length rows₀ → {r : List ℕ} → r ≡ f (get_or rows i []) → Fronts (map f rows₀) rows₀ (i + 1) (set rows i r)
+  mapping_turn h {r} e =
+      let l : i < length (map f rows₀) = omega (arith, length-map rows₀ f) in
+      front_turn m l h [] (e ∙ ap f (front_next m l h []) ∙ sym (get_or-map f rows₀ i [] [] h))
 
-module _ (f : List ℕ → List ℕ) where
-  map_next : (rs : List (List ℕ)) (i : ℕ) → i < length rs
-      → set (map f (take i rs) ++ drop i rs) i (f (get_or (map f (take i rs) ++ drop i rs) i [])) ≡ map f (take (suc i) rs) ++ drop (suc i) rs
-  map_next [] i h = absurd (omega arith)
-  map_next (r ∷ rs) zero h = refl
-  map_next (r ∷ rs) (suc i) h = ap (λ (l : List (List ℕ)). f r ∷ l) (map_next rs i (omega arith))
+  pub mapping_last : {n : ℕ} → i ≡ n → rows ≡ map f (take n rows₀) ++ drop n rows₀
+  mapping_last {n} z = rw (← take-map f n rows₀, ← z) m.is
 
-  map_length : (n : ℕ) (rs : List (List ℕ)) → n ≤ length rs → length (map f (take n rs) ++ drop n rs) ≡ length rs
-  map_length n rs h = simp (length-append, length-map, length-take, length-drop) (omega arith)
-
-module _ {f : List ℕ → List ℕ} {n : ℕ} {rows₀ : List (List ℕ)} where
-  module _ (room : n ≤ length rows₀) {rows : List (List ℕ)} {i : ℕ} (m : Mapping f n rows₀ rows i) where
-    pub mapping_turn : i < n → {r : List ℕ} → r ≡ f (get_or rows i []) → Mapping f n rows₀ (set rows i r) (i + 1)
-    mapping_turn h {r} e = record { bound = omega arith; is = rw (e, m.is, add-one) (map_next f rows₀ i (omega arith)) }
+map_length : (f : List ℕ → List ℕ) (n : ℕ) (rs : List (List ℕ)) → n ≤ length rs → length (map f (take n rs) ++ drop n rs) ≡ length rs
+map_length f n rs h = simp (length-append, length-map, length-take, length-drop) (omega arith)
 
 -- ---- a chunk of names
 
-module _ {b : List ℕ} {w : FileWrapper} {first e : ℕ} {counts : List ℕ} {c : ChunkCount} (k : CountsNames b w first e counts c) where
-  counts_next : (i : ℕ) → count_in counts first e i (count_below b w first i) ≡ count_below b w e i
+module _ {m : Metadata} {first e : ℕ} {counts : List ℕ} {any : Bool} {next : ℕ} (k : FillsTable m 0 (λ name. (shown_bytes name).replaced) first e counts any next) where
+  counts_next : (i : ℕ) → count_in counts first e i (count_below m first i) ≡ count_below m e i
   unfolding count_in count_below
   counts_next i =
-      either (ltb i first)
-      (λ t. simp (t, lt-leb first i (ltb-true i first t), lt-ltb i e (omega (arith, ltb-true i first t, k.table.order))))
-      (λ t. let l = ltb-false i first t in
-      either (ltb i e) (λ u. simp (t, u, le-leb first i l) (k.table.is i l (ltb-true i e u))) (λ u. simp (t, u, le-leb first i l)))
+      rw (in_chunk k i)
+      (either (ltb i first)
+      (λ t. simp (t, lt-leb first i (ltb-true i first t), lt-ltb i e (omega (arith, ltb-true i first t, k.more))))
+      (λ t. let l = le-leb first i (ltb-false i first t) in either (ltb i e) (λ u. simp (t, u, l)) (λ u. simp (t, u, l))))
 
-  counts_kept : c.any ≡ false → (i : ℕ) → count_below b w first i ≡ count_below b w e i
+  counts_kept : any ≡ false → (i : ℕ) → count_below m first i ≡ count_below m e i
   unfolding count_below
   counts_kept z i =
       either (ltb i first)
-      (λ t. simp (t, lt-ltb i e (omega (arith, ltb-true i first t, k.table.order))))
-      (λ t. either (ltb i e) (λ u. simp (t, u) (sym (k.table.none z i (ltb-false i first t) (ltb-true i e u)))) (λ u. simp (t, u)))
+      (λ t. simp (t, lt-ltb i e (omega (arith, ltb-true i first t, k.more))))
+      (λ t. either (ltb i e) (λ u. simp (t, u) (sym (k.is.none z i (ltb-false i first t) (ltb-true i e u)))) (λ u. simp (t, u)))
 
-module _ {b : List ℕ} {w : FileWrapper} {n e : ℕ} {from : CountWalk} {counts : List ℕ} {c : ChunkCount}
-    (r : (from.name < e) × (e ≤ from.name + 4096) × (e ≤ w.names + 1)) (k : CountsNames b w from.name e counts c) {rows : List (List ℕ)} where
-  pub chunk_counted : n ≤ length rows → {rows' : List (List ℕ)} → rows' ≡ map (recounted counts from.name e) (take n rows) ++ drop n rows
-      → CountsChunk b w n from (record { name = e; start = c.next }) rows rows'
-  chunk_counted room {rows'} is = record {
-    more = r.0;
-    few = r.2;
-    heap = k.table.heap;
-    size = ap length is ∙ map_length (recounted counts from.name e) n rows room;
-    is = λ ts d l q.
-        let f : ℕ → ℕ = count_below b w from.name in
-        let m : length (map (row_of f) ts) ≡ n = length-map ts (row_of f) ∙ l in
-        let front : take n rows ≡ map (row_of f) ts = ap (take n) q ∙ take_at (map (row_of f) ts) d n m in
-        let rest : drop n rows ≡ d = ap (drop n) q ∙ drop_at (map (row_of f) ts) d n m in
-        is ∙ rw (front, rest, recount_all counts from.name e f ts) (ap (λ (x : List (List ℕ)). x ++ d) (rows_all (λ i. count_in counts from.name e i (f i)) (count_below b w e) (counts_next k) ts));
-  }
+module _ {m : Metadata} {from : CountWalk} {e : ℕ} {counts : List ℕ} {any : Bool} {next : ℕ}
+    (k : FillsTable m 0 (λ name. (shown_bytes name).replaced) from.name e counts any next) {n : ℕ} {rows : List (List ℕ)} where
+  pub chunk_counted : n ≤ length rows → {c : ℕ} → c ≡ from.name → {rows' : List (List ℕ)} → rows' ≡ map (recounted counts c e) (take n rows) ++ drop n rows
+      → CountsChunk m n from (record { name = e; start = next }) rows rows'
+  chunk_counted room {c} at {rows'} was =
+      let is : rows' ≡ map (recounted counts from.name e) (take n rows) ++ drop n rows = rw at at was in
+      record {
+        more = k.more;
+        few = k.few;
+        heap = k.is.heap;
+        size = ap length is ∙ map_length (recounted counts from.name e) n rows room;
+        is = λ ts d l q.
+            let f : ℕ → ℕ = count_below m from.name in
+            let s : length (map (row_of f) ts) ≡ n = length-map ts (row_of f) ∙ l in
+            let front : take n rows ≡ map (row_of f) ts = ap (take n) q ∙ take_at (map (row_of f) ts) d n s in
+            let rest : drop n rows ≡ d = ap (drop n) q ∙ drop_at (map (row_of f) ts) d n s in
+            is ∙ rw (front, rest, recount_all counts from.name e f ts) (ap (λ (x : List (List ℕ)). x ++ d) (rows_all (λ i. count_in counts from.name e i (f i)) (count_below m e) (counts_next k) ts));
+      }
 
-  pub chunk_sound : c.any ≡ false → CountsChunk b w n from (record { name = e; start = c.next }) rows rows
+  pub chunk_sound : any ≡ false → CountsChunk m n from (record { name = e; start = next }) rows rows
   chunk_sound z = record {
-    more = r.0;
-    few = r.2;
-    heap = k.table.heap;
+    more = k.more;
+    few = k.few;
+    heap = k.is.heap;
     size = refl;
-    is = λ ts d l q. q ∙ ap (λ (x : List (List ℕ)). x ++ d) (rows_all (count_below b w from.name) (count_below b w e) (counts_kept k z) ts);
+    is = λ ts d l q. q ∙ ap (λ (x : List (List ℕ)). x ++ d) (rows_all (count_below m from.name) (count_below m e) (counts_kept k z) ts);
   }
 
 -- ---- a sound heap
 
-module _ {b : List ℕ} {w : FileWrapper} (o : Opens b w) where
-  pub sound_none : w.names ≡ 0 → SoundNames b w true
+module _ (m : Metadata) where
+  pub sound_none : m.w.names ≡ 0 → SoundNames m true
   sound_none z i h =
       let y : i ≡ 0 = omega arith in
-      rw y (empty_sound b w.offsets.o0)
+      rw y (empty_sound m.blob.now m.w.offsets.o0)
 
-  module _ (some : w.names ≡ 0 → ⊥) where
-    pub sound_begins : 40 ≤ w.offsets.o0
-    sound_begins = heap_begins b (omega (arith, o.names))
+  module _ (some : m.w.names ≡ 0 → ⊥) where
+    pub sound_begins : 40 ≤ m.w.offsets.o0
+    sound_begins = heap_begins m.blob.now (omega (arith, m.opens.names))
 
-    pub sound_whole : {x : Validity} → validity_place x ≡ first_ill_formed (parts_from (take (w.offsets.o0 - 40) (drop 40 b)) 0) → x ≡ validity.WellFormed
-        → SoundNames b w true
-    sound_whole e g i h =
-        let heap : take (w.offsets.o0 - 40) (drop 40 b) ≡ heap_of b w.offsets.o0 = part_slice 40 w.offsets.o0 b sound_begins in
-        name_sound b w.offsets.o0 (valid_scalars (heap_of b w.offsets.o0) (rw heap at e) g) i
+    whole : (x : Reply (Unit {0}) Utf8Error) → error_place x ≡ first_ill_formed (parts_from (take (m.w.offsets.o0 - 40) (drop 40 m.blob.now)) 0) → SoundNames m (is_ok x)
+    whole (Ok u) e = λ i h.
+        let heap : take (m.w.offsets.o0 - 40) (drop 40 m.blob.now) ≡ heap_of m.blob.now m.w.offsets.o0 = part_slice 40 m.w.offsets.o0 m.blob.now sound_begins in
+        name_sound m.blob.now m.w.offsets.o0 (valid_scalars (heap_of m.blob.now m.w.offsets.o0) {A = Unit {0}} {x = Ok u} (rw heap at e) {a = u} refl) i
+    whole (Err f) e = tt
+
+    pub sound_whole : (x : Reply (Unit {0}) Utf8Error) → error_place x ≡ first_ill_formed (parts_from (take (m.w.offsets.o0 - 40) (drop 40 m.blob.now)) 0) → {r : Bool} → r ≡ is_ok x
+        → SoundNames m r
+    sound_whole x e {r} g = rw g (whole x e)
 
 -- ---- all rows
 
 -- the rows have the counts of the names below the next one
-pub record Counting (b : List ℕ) (w : FileWrapper) (n : ℕ) (rows₀ rows : List (List ℕ)) (k : CountWalk) : Type 0 where
-  pub least : 1 ≤ k.name
-  pub few : k.name ≤ w.names + 1
-  pub heap : PieceBegins b w.offsets.o0 k.name k.start
+pub record Counting (m : Metadata) (n : ℕ) (rows₀ rows : List (List ℕ)) (k : CountWalk) : Type 0 where
+  pub few : k.name ≤ m.w.names + 1
+  pub heap : PieceBegins m.blob.now m.w.offsets.o0 k.name k.start
   pub size : length rows ≡ length rows₀
   pub is :
       (ts : List Triple) (d : List (List ℕ)) → length ts ≡ n
-      → rows₀ ≡ map (row_of no_count) ts ++ d → rows ≡ map (row_of (count_below b w k.name)) ts ++ d
+      → rows₀ ≡ map (row_of no_count) ts ++ d → rows ≡ map (row_of (count_below m k.name)) ts ++ d
 
-module _ {b : List ℕ} {w : FileWrapper} {n : ℕ} {rows₀ : List (List ℕ)} where
-  pub rows_sound : {r : Bool} → r ≡ true → SoundNames b w r → CountsRows b w n rows₀ rows₀
+module _ {m : Metadata} {n : ℕ} {rows₀ : List (List ℕ)} where
+  pub rows_sound : {r : Bool} → r ≡ true → SoundNames m r → CountsRows m n rows₀ rows₀
   rows_sound g s = record {
     size = refl;
-    is = λ ts d l c q. q ∙ ap (λ (x : List (List ℕ)). x ++ d) (rows_same w no_count (replaced_of b w) (λ i h. sym (subst (SoundNames b w) g s i h)) ts c);
+    is = λ ts d l c q. q ∙ ap (λ (x : List (List ℕ)). x ++ d) (rows_same m.w no_count (replaced_of m.blob.now m.w) (λ i h. sym (subst (SoundNames m) g s i h)) ts c);
   }
 
-  pub counting_start : Counting b w n rows₀ rows₀ (record { name = 1; start = 40 })
+  pub counting_start : Counting m n rows₀ rows₀ (record { name = 0; start = 40 })
   unfolding count_below
   counting_start = record {
-    least = omega arith;
     few = omega arith;
-    heap = record { rest = refl };
+    heap = stand_start;
     size = refl;
-    is = λ ts d l q. q ∙ ap (λ (x : List (List ℕ)). x ++ d) (rows_all no_count (count_below b w 1) first ts);
+    is = λ ts d l q. q ∙ ap (λ (x : List (List ℕ)). x ++ d) (rows_all no_count (count_below m 0) (λ i. simp (le-ltb i 0 (omega arith))) ts);
   }
-    where
-      first : (i : ℕ) → 0 ≡ count_below b w 1 i
-      first i =
-          equal_or i 0
-          (λ z. rw z (sym (empty_sound b w.offsets.o0)))
-          (λ m. simp (le-ltb i 1 (omega arith)))
 
-  module _ {rows : List (List ℕ)} {k : CountWalk} (c : Counting b w n rows₀ rows k) where
-    pub counting_last : w.names < k.name → CountsRows b w n rows₀ rows
+  module _ {rows : List (List ℕ)} {k : CountWalk} (c : Counting m n rows₀ rows k) where
+    pub counting_last : m.w.names < k.name → CountsRows m n rows₀ rows
     unfolding count_below
     counting_last h = record {
       size = c.size;
-      is = λ ts d l e q. c.is ts d l q ∙ ap (λ (x : List (List ℕ)). x ++ d) (rows_same w (count_below b w k.name) (replaced_of b w) all ts e);
+      is = λ ts d l e q. c.is ts d l q ∙ ap (λ (x : List (List ℕ)). x ++ d) (rows_same m.w (count_below m k.name) (replaced_of m.blob.now m.w) all ts e);
     }
       where
-        all : (i : ℕ) → i ≤ w.names → count_below b w k.name i ≡ replaced_of b w i
+        all : (i : ℕ) → i ≤ m.w.names → count_below m k.name i ≡ replaced_of m.blob.now m.w i
         all i l = simp (lt-ltb i k.name (omega arith))

@@ -1,24 +1,29 @@
 -- A payload in canonical form (01's written form): what it is by tests that one pass makes, with the loop of `is_canonical_payload`; it is what
 -- writing gives for its array, and writing accepts that array.
 -- Assumes nothing.
+use Rattle.std.specs.Option.{unwrap_or}
 use mathlib.Core.Path.{◌≡◌, refl, ◌∙◌, sym, ap, ap₂}
-use mathlib.Core.Bool.{Bool, true, false, not}
+use mathlib.Core.Bool.{Bool, true, false}
 use mathlib.Core.List.{List, [], ◌∷◌, ◌++◌, flat_map}
-use mathlib.Core.Option
-use mathlib.Core.Option.{Option, some}
+use Rattle.std.specs.List.{list_any}
+use Rattle.std.proofs.lemmas.List.Folds.{list_any_at}
+use Rattle.std.specs.Prelude.{Option, Some, Ok, Err, Result as Reply}
+use Rattle.std.specs.Result as reply
 use Prim.Native.Nat.{ℕ, zero, suc, ◌+◌, ◌-◌, ◌*◌, ◌/◌, ◌%◌, ◌^◌, ◌≤◌, ◌<◌}
 use native.Mathlib.Nat.{zero-add}
 use native.Mathlib.Omega.{arith}
-use borrow.Author.Tests.{eq-eqb, eqb-true, not-true, not-false}
+use borrow.Author.Tests.{eq-eqb, eqb-true, ne_eqb}
+use lib.Dec.{eqb}
 use lib.ListN.{length, get_or, take, drop, length-drop, length-map, take-append-drop, get_or-append}
 use lib.Seq.{drop-cons, drop-drop, drop_at, get_or-drop, get_or-take, ext_get_or, length-take-le}
 use Rattle.text.specs.Buffer.{same}
 use Rattle.text.specs.Result.{Result, ok, error, is_ok, values_of, map_result}
 use Rattle.text.specs.Utf8.{units_of}
 use Rattle.text.specs.Utf16.{the_text}
+use Rattle.text.specs.Replies.{outcome}
 use Rattle.text.specs.declared.error.Failure.{Failure}
 use Rattle.text.specs.declared.error.MatError.{MatError}
-use Rattle.text.proofs.ResultLaws.{reply_is}
+use Rattle.text.proofs.ReplyLaws.{told_error}
 use Rattle.text.proofs.SameLaws.{same_refl, same_is}
 use Rattle.text.proofs.TestLaws.{and_is, not_both}
 use Rattle.text.proofs.Utf16Laws.{text_units}
@@ -29,18 +34,16 @@ use Rattle.writer.proofs.ArrayLaws.{payload_is, cut_again, array_accepted}
 use Rattle.writer.proofs.ShapeLaws.{shape_is}
 use Rattle.writer.proofs.WordLaws.{length_packed, padded}
 use Rattle.reader.specs.Saveobj.{dim_count, unit_count, units_before, stored_units, stored_strings, check_pairing, decode_payload, decoded_array, is_canonical_payload}
-use Rattle.reader.specs.Stages.Saveobj.{layout_of, check_layout}
-use Rattle.reader.specs.Replies.{size_of, strings_reply_of}
+use Rattle.reader.specs.Stages.Saveobj.{check_layout}
+use Rattle.reader.specs.Replies.{size_of}
 use Rattle.reader.specs.Units.{units_in}
 use Rattle.reader.specs.Stages.Units.{is_packed}
-use Rattle.reader.specs.declared.saveobj.LayoutReply.{LayoutReply}
-use Rattle.reader.specs.declared.saveobj.LayoutReply.TheVariants as layout
-use Rattle.reader.specs.declared.saveobj.StringsReply.{StringsReply}
-use Rattle.reader.specs.declared.saveobj.StringsReply.TheVariants as reply
-use Rattle.reader.proofs.saveobj.Header.{HeaderPassed, header_passed}
+use Rattle.reader.specs.declared.saveobj.DecodedSize.{DecodedSize}
+use Rattle.reader.specs.declared.saveobj.Layout.{Layout}
+use Rattle.reader.proofs.saveobj.HeaderLaws.{HeaderPassed, header_passed}
 use Rattle.reader.proofs.saveobj.Lengths.{count_missing, count_given, units_most}
 use Rattle.reader.proofs.units.Packed.{units_drop, units_append, repacked}
-use Rattle.reader.proofs.saveobj.Payload.{PayloadPassed, strings_passed, payload_passed, LayoutPassed, layout_refused, laid_out, counts_are, error_is}
+use Rattle.reader.proofs.saveobj.Payload.{PayloadPassed, strings_passed, payload_passed, LayoutPassed, layout_passed, layout_refused, counts_are}
 use Rattle.reader.proofs.RoundTrip.{counts_at}
 use Rattle.reader.proofs.saveobj.Strings.{length_stored}
 use Rattle.reader.proofs.units.Laws.{length_units, units_below}
@@ -108,12 +111,12 @@ module _ (p : List ℕ) (base n : ℕ) (d : Decoded p base n) where
       ∙ ap₂ (λ (y : ℕ) (r : List ℕ). 1 ∷ y ∷ r) (sym length_dims) (sym (take-append-drop (dim_count p) (drop 2 p)) ∙ ap (λ (r : List ℕ). dims ++ r) t)
 
   -- the units of a string that was read are the units that were read
-  string_well_formed : (i : ℕ) → i < n → units_of (the_text (stored_units p base n i)) ≡ some (stored_units p base n i)
+  string_well_formed : (i : ℕ) → i < n → units_of (the_text (stored_units p base n i)) ≡ Some (stored_units p base n i)
   string_well_formed i h =
       text_units (stored_units p base n i) (the_text (stored_units p base n i)) (units_below p (base + n) (units_before p base i) (unit_count p base i)) (d.strings.paired i h)
 
   string_units_lem : (i : ℕ) → i < n → string_units (the_text (stored_units p base n i)) ≡ stored_units p base n i
-  string_units_lem i h = ap (λ (m : Option (List ℕ)). Option.get_or m []) (string_well_formed i h)
+  string_units_lem i h = ap (λ (m : Option (List ℕ)). unwrap_or m []) (string_well_formed i h)
 
   count_of_lem : (i : ℕ) → i < n → get_or (unit_counts ss) i 0 ≡ unit_count p base i
   count_of_lem i h =
@@ -264,12 +267,13 @@ same_test true b f g = sym (f refl)
 same_test false true f g = g refl
 same_test false false f g = refl
 
--- a payload that passed 22 to 28, whose units fill its words; no length before string i marks a missing string
-pub record Scanning (p : List ℕ) (base n i : ℕ) : Type 0 where
-  pub layout : LayoutPassed p base n (units_before p base n)
-  pub packed : is_packed p (base + n) (units_before p base n) ≡ true
-  pub bound : i ≤ n
-  pub given : (k : ℕ) → k < i → get_or p (base + k) 0 ≡ 2 ^ 64 - 1 → ⊥
+-- a length that marks a missing string
+abbrev is_mark : ℕ → Bool
+is_mark y = eqb y (2 ^ 64 - 1)
+
+no_mark : (xs : List ℕ) → ((i : ℕ) → i < length xs → get_or xs i 0 ≡ 2 ^ 64 - 1 → ⊥) → list_any is_mark xs ≡ false
+no_mark [] f = refl
+no_mark (x ∷ xs) f = rw (ne_eqb x (2 ^ 64 - 1) (f 0 (omega arith))) (no_mark xs (λ i h. f (suc i) (omega arith)))
 
 module _ (p : List ℕ) where
   -- a payload in canonical form has strings
@@ -291,55 +295,57 @@ module _ (p : List ℕ) where
   unfolding is_canonical_payload
   refused e = rw e
 
-  module _ {x : LayoutReply} (e : layout_of x ≡ check_layout p) where
-    pub canonical_refused : {f : MatError} → x ≡ layout.Error f → false ≡ is_canonical_payload p
-    canonical_refused g = refused (layout_refused p (reply_is layout_of e g))
+  pub canonical_refused : {f : Failure} → error f ≡ check_layout p → false ≡ is_canonical_payload p
+  canonical_refused e = refused (layout_refused p (sym e))
 
-    module _ {base n units : ℕ} (g : x ≡ layout.Layout base n units) where
-      pub packed_inside : base + n ≤ length p
-      packed_inside = (laid_out p e g).header.inside
+  module _ {a : Layout} (e : ok a ≡ check_layout p) where
+    laid_out : LayoutPassed p a.base a.strings a.units
+    laid_out = layout_passed p (sym e)
 
-      pub packed_fits : units ≤ 4 * (length p - (base + n))
-      packed_fits = let l = laid_out p e g in omega (arith, l.sum, l.checked.units)
+    pub packed_inside : (a.base + a.strings ≤ length p) × (a.units ≤ 4 * (length p - (a.base + a.strings)))
+    packed_inside = let l = laid_out in (l.header.inside, omega (arith, l.sum, l.checked.units))
 
-      pub packed_start : base + n < 2 ^ 64
-      packed_start = let l = laid_out p e g in omega (arith, l.header)
+    module _ {r : Bool} (q : r ≡ is_packed p (a.base + a.strings) a.units) where
+      pub canonical_spare : r ≡ false → false ≡ is_canonical_payload p
+      unfolding is_packed
+      canonical_spare t =
+          let l = laid_out in
+          never l (λ c. let i = parts l c in not_both (rw (eq-eqb _ _ i.size, eq-eqb _ _ i.padding)) (sym (rw l.sum at q) ∙ t))
 
-      module _ {r : Bool} (q : r ≡ is_packed p (base + n) units) where
-        pub canonical_spare : not r ≡ true → false ≡ is_canonical_payload p
-        unfolding is_packed
-        canonical_spare t =
-            let l = laid_out p e g in
-            never l (λ c. let i = parts l c in not_both (rw (eq-eqb _ _ i.size, eq-eqb _ _ i.padding)) (sym (rw l.sum at q) ∙ not-true r t))
+      module _ {k : Bool} (g : k ≡ list_any is_mark (take (a.base + a.strings - a.base) (drop a.base p))) where
+        abbrev lengths : List ℕ
+        lengths = take (a.base + a.strings - a.base) (drop a.base p)
 
-        pub scan_start : not r ≡ false → Scanning p base n 0
-        scan_start t =
-            let l = laid_out p e g in
-            record {
-              layout = rw l.sum at l;
-              packed = sym (rw l.sum at q) ∙ not-false r t;
-              bound = omega arith;
-              given = λ k h. absurd (omega arith);
-            }
+        many : length lengths ≡ a.strings
+        many =
+            let l = laid_out.header.inside in
+            let e = length-take-le (a.base + a.strings - a.base) (drop a.base p) (omega (arith, length-drop a.base p)) in
+            omega arith
 
-module _ {p : List ℕ} {base n i : ℕ} (m : Scanning p base n i) where
-  module _ (h : i < n) where
-    pub scan_stop : get_or p (base + i) 0 ≡ 2 ^ 64 - 1 → false ≡ is_canonical_payload p
-    scan_stop g = never p m.layout (λ c. (parts p m.layout c).given i h g)
+        length_is : (i : ℕ) → i < a.strings → get_or lengths i 0 ≡ get_or p (a.base + i) 0
+        length_is i h = get_or-take (a.base + a.strings - a.base) (drop a.base p) i 0 (omega arith) ∙ get_or-drop a.base p i 0
 
-  module _ {x : StringsReply} (e : strings_reply_of x ≡ map_result size_of (check_pairing p base n)) where
-    pub scan_unpaired : {f : MatError} → x ≡ reply.Error f → false ≡ is_canonical_payload p
-    scan_unpaired g = refused p (m.layout.strings ∙ error_is (check_pairing p base n) (reply_is strings_reply_of e g))
+        pub canonical_missing : k ≡ true → false ≡ is_canonical_payload p
+        canonical_missing t =
+            never laid_out
+            (λ c. not_both (sym g ∙ t) (no_mark lengths (λ i h e. (parts laid_out c).given i (omega (arith, many)) (sym (length_is i (omega (arith, many))) ∙ e))))
 
-    pub scan_last : n ≤ i → {b c : ℕ} → x ≡ reply.Strings b c → ((k : ℕ) → get_or p k 0 < 2 ^ 64) → true ≡ is_canonical_payload p
-    unfolding is_packed
-    scan_last h g b =
-        let q = and_is _ _ m.packed in
-        sym
-        (canonical_from b
-        (record {
-          decoded = decoded_by p m.layout (ap is_ok (m.layout.strings ∙ (counts_are (check_pairing p base n) (reply_is strings_reply_of e g)).0));
-          given = λ k l. m.given k (omega arith);
-          size = eqb-true _ _ q.0;
-          padding = eqb-true _ _ q.1;
-        }))
+        module _ (t : r ≡ true) (f : k ≡ false) (b : (k : ℕ) → get_or p k 0 < 2 ^ 64) where
+          all_tested : {size : DecodedSize} → ok size ≡ map_result size_of (check_pairing p a.base a.strings) → true ≡ is_canonical_payload p
+          unfolding is_packed
+          all_tested e =
+              let l = laid_out in
+              let q = and_is _ _ (sym (rw l.sum at q) ∙ t) in
+              sym
+              (canonical_from b
+              (record {
+                decoded = decoded_by l (ap is_ok (l.strings ∙ (counts_are (check_pairing p a.base a.strings) e).0));
+                given = λ i h e. not_both (list_any_at is_mark lengths i 0 (omega (arith, many)) (eq-eqb _ _ (length_is i h ∙ e))) (sym g ∙ f);
+                size = eqb-true _ _ q.0;
+                padding = eqb-true _ _ q.1;
+              }))
+
+          -- 29 decides
+          pub canonical_last : (r : Reply DecodedSize MatError) → outcome r ≡ map_result size_of (check_pairing p a.base a.strings) → reply.is_ok r ≡ is_canonical_payload p
+          canonical_last (Ok size) e = all_tested e
+          canonical_last (Err x) e = refused (laid_out.strings ∙ told_error size_of (check_pairing p a.base a.strings) e)

@@ -54,24 +54,24 @@ module _ (payload : List ℕ) (base n : ℕ) where
   sum_start = record { is = refl; below = omega arith; checks = checks_start 27 (sum_fits payload base) 0 n (omega arith) }
 
   module _ {sum i count : ℕ} (m : Summing payload base n sum i) (h : i < n) (e : count ≡ unit_count payload base i) where
-    pub sum_turn : count ≤ 0xFFFF_FFFF_FFFF_FFFF - sum → Summing payload base n (sum + count) (i + 1)
+    pub sum_turn : {more : ℕ} → (sum + count < 2 ^ 64) × (more ≡ sum + count) → Summing payload base n more (i + 1)
     unfolding units_before
     sum_turn l =
         let k = m.is in
         record {
-          is = rw (add-one i) (omega arith);
-          below = omega (arith, m.below);
+          is = rw (add-one i) (omega (arith, l.1));
+          below = omega (arith, l.0, l.1);
           checks =
               checks_turn 27 (sum_fits payload base) 0 n m.checks h
-              (lt-ltb (units_before payload base i + unit_count payload base i) (2 ^ 64) (omega (arith, m.below)));
+              (lt-ltb (units_before payload base i + unit_count payload base i) (2 ^ 64) (omega (arith, l.0)));
         }
 
-    pub sum_stop : 0xFFFF_FFFF_FFFF_FFFF - sum < count → error (record { number = 27; place = i }) ≡ check_sum payload base n
+    pub sum_stop : (sum + count < 2 ^ 64 → ⊥) → error (record { number = 27; place = i }) ≡ check_sum payload base n
     unfolding check_sum units_before
     sum_stop l =
         let k = m.is in
         rw (checks_stop 27 (sum_fits payload base) 0 n m.checks h
-        (le-ltb (units_before payload base i + unit_count payload base i) (2 ^ 64) (omega arith)))
+        (le-ltb (units_before payload base i + unit_count payload base i) (2 ^ 64) (omega (arith, l))))
 
   pub sum_last : {sum i : ℕ} → Summing payload base n sum i → n ≤ i → ok sum ≡ check_sum payload base n
   unfolding check_sum

@@ -4,38 +4,33 @@ use Prim.Native.Nat.{ℕ, zero, suc, ◌+◌, ◌-◌, ◌*◌, ◌^◌, ◌≤�
 use mathlib.Core.Path.{◌≡◌, refl, sym, ap, subst, ◌∙◌}
 use mathlib.Core.Bool.{true, false}
 use mathlib.Core.List.{List}
-use mathlib.Core.Option.{some}
+use Rattle.std.specs.Prelude.{Some}
 use native.Mathlib.Nat.{zero-add}
 use native.Mathlib.Numerals.{add-one}
 use native.Mathlib.Omega.{arith}
 use borrow.Author.Tests.{le-leb, lt-leb, leb-true}
 use lib.Dec.{leb}
 use lib.ListN.{length}
+use Rattle.std.specs.Prelude.{IsErr, Ok, Err, Result as Reply}
+use Rattle.std.specs.Result.{IsErrAnd}
 use Rattle.text.specs.Errors.{failure_of}
-use Rattle.text.specs.Replies.{checked_of}
+use Rattle.text.specs.Replies.{outcome}
 use Rattle.text.specs.Result.{Result, ok, error, map_result, check_each, need_place, overwritten, values_of, ◌>>◌, ◌>>=◌}
 use Rattle.text.specs.Utf16.{text_of, the_text}
 use Rattle.text.specs.declared.error.Failure.{Failure}
 use Rattle.text.specs.declared.error.MatError.{MatError}
-use Rattle.text.specs.declared.error.MatError.TheVariants.{OutputTooShort}
-use Rattle.text.specs.declared.reply.Checked.{Checked}
-use Rattle.text.specs.declared.reply.Checked.TheVariants as checked
 use Rattle.text.proofs.BufferLaws.{put_front}
-use Rattle.text.proofs.ResultLaws.{reply_is, check_passed, seq_passed, bind_passed, check_each_passed, check_is, Checks, checks_start, checks_turn, checks_stop}
+use Rattle.text.proofs.ReplyLaws.{handed_on}
+use Rattle.text.proofs.ResultLaws.{same_value, check_passed, seq_passed, bind_passed, check_each_passed, check_is, Checks, checks_start, checks_turn, checks_stop}
 use Rattle.writer.specs.Spans.{joined, spans_from}
-use Rattle.reader.specs.Saveobj.{units_before, Header, stored_units, stored_strings, check_header, check_sum, check_unit_count, check_pairing, decode_payload, check_outputs, into_strings}
-use Rattle.reader.specs.Stages.Saveobj.{number_of, header_of, Layout, layout_of, check_layout, UnitsChecked, StringsFit, WritesStrings, origin, FitsAt, WritesAt}
-use Rattle.reader.specs.Replies.{DecodedSize, size_of, strings_reply_of, DecodesStrings}
-use Rattle.reader.specs.declared.saveobj.HeaderReply.{HeaderReply}
-use Rattle.reader.specs.declared.saveobj.HeaderReply.TheVariants as header
-use Rattle.reader.specs.declared.saveobj.LayoutReply.{LayoutReply}
-use Rattle.reader.specs.declared.saveobj.LayoutReply.TheVariants as layout
-use Rattle.reader.specs.declared.saveobj.NumberReply.{NumberReply}
-use Rattle.reader.specs.declared.saveobj.NumberReply.TheVariants as number
+use Rattle.reader.specs.Saveobj.{units_before, stored_units, stored_strings, check_header, check_sum, check_unit_count, check_pairing, decode_payload, check_outputs, into_strings}
+use Rattle.reader.specs.Stages.Saveobj.{check_layout, UnitsChecked, StringsFit, origin, FitsAt, WritesAt}
+use Rattle.reader.specs.Replies.{size_of, DecodesStrings}
+use Rattle.reader.specs.declared.saveobj.DecodedSize.{DecodedSize}
+use Rattle.reader.specs.declared.saveobj.Header.{Header}
+use Rattle.reader.specs.declared.saveobj.Layout.{Layout}
 use Rattle.reader.specs.declared.saveobj.Position.{Position}
-use Rattle.reader.specs.declared.saveobj.StringsReply.{StringsReply}
-use Rattle.reader.specs.declared.saveobj.StringsReply.TheVariants as reply
-use Rattle.reader.proofs.saveobj.Header.{HeaderPassed, header_passed}
+use Rattle.reader.proofs.saveobj.HeaderLaws.{HeaderPassed, header_passed}
 use Rattle.reader.proofs.saveobj.Lengths.{sum_fits}
 use Rattle.writer.proofs.SpanLaws.{some_is}
 use Rattle.reader.proofs.saveobj.Strings.{is_paired, length_stored, stored_most}
@@ -45,7 +40,7 @@ use Rattle.reader.proofs.saveobj.Strings.{is_paired, length_stored, stored_most}
 -- a payload of n strings whose lengths begin at word base
 pub record PayloadPassed (payload : List ℕ) (base n : ℕ) (strings : List (List ℕ)) : Type 0 where
   pub checked : UnitsChecked payload base n
-  pub paired : (i : ℕ) → i < n → text_of (stored_units payload base n i) ≡ some (the_text (stored_units payload base n i))
+  pub paired : (i : ℕ) → i < n → text_of (stored_units payload base n i) ≡ Some (the_text (stored_units payload base n i))
   pub is : strings ≡ stored_strings payload base n 0 n
   pub many : length strings ≡ n
 
@@ -104,36 +99,18 @@ payload_most payload {strings} e =
 
 -- ---- the outcomes of `read_layout`
 
-module _ (payload : List ℕ) {x : HeaderReply} (e : header_of x ≡ check_header payload) where
-  pub layout_header : {f : MatError} → x ≡ header.Error f → error (failure_of f) ≡ check_layout payload
-  unfolding check_layout
-  layout_header g = rw (reply_is header_of e g)
+module _ (payload : List ℕ) where
+  module _ {h : Header} (e : ok h ≡ check_header payload) where
+    pub header_inside : h.base + h.strings ≤ length payload
+    header_inside = (header_passed payload (sym e)).inside
 
-  module _ {base n : ℕ} (g : x ≡ header.Header base n) where
-    pub header_inside : base + n ≤ length payload
-    header_inside = (header_passed payload (reply_is header_of e g)).inside
-
-    pub header_fits : base + n < 2 ^ 64
-    header_fits = let p = header_passed payload (reply_is header_of e g) in omega arith
-
-    module _ {y : NumberReply} (s : number_of y ≡ check_sum payload base n) where
-      pub layout_sum : {f : MatError} → y ≡ number.Error f → error (failure_of f) ≡ check_layout payload
+    module _ {sum : ℕ} (s : ok sum ≡ check_sum payload h.base h.strings) where
+      pub layout_whole : sum ≤ 4 * (length payload - (h.base + h.strings))
+          → ok (record { base = h.base; strings = h.strings; units = sum }) ≡ check_layout payload
       unfolding check_layout check_unit_count
-      layout_sum k = rw (reply_is header_of e g) (rw (reply_is number_of s k))
-
-      module _ {sum : ℕ} (k : y ≡ number.Number sum) where
-        pub layout_short : 4 * (length payload - (base + n)) < sum → error (record { number = 28; place = sum }) ≡ check_layout payload
-        unfolding check_layout check_unit_count
-        layout_short l = rw (reply_is header_of e g) (simp (reply_is number_of s k, lt-leb sum (4 * (length payload - (base + n))) l))
-
-        pub layout_whole : sum ≤ 4 * (length payload - (base + n)) → {units : ℕ} → units ≡ sum
-            → ok (record { base = base; strings = n; units = units }) ≡ check_layout payload
-        unfolding check_layout check_unit_count
-        layout_whole l u =
-            rw (reply_is header_of e g)
-            (simp (reply_is number_of s k, le-leb sum (4 * (length payload - (base + n))) l) (rw (u, sum_passed payload base n (reply_is number_of s k))))
-
-pub ruleset layout_outcomes = (layout_header, layout_sum, layout_short, layout_whole)
+      layout_whole l =
+          rw (sym e)
+          (simp (sym s, le-leb sum (4 * (length payload - (h.base + h.strings))) l) (rw (sum_passed payload h.base h.strings (sym s))))
 
 -- ---- 22 to 28, then 29
 
@@ -201,36 +178,30 @@ unpaired_first {payload} {base} {n} p i h f g =
 
 -- ---- the outcomes of `measure_saveobj`
 
-module _ (payload : List ℕ) {x : LayoutReply} (e : layout_of x ≡ check_layout payload) where
-  pub measure_refused : {f : MatError} → x ≡ layout.Error f → error (failure_of f) ≡ map_result size_of (decode_payload payload)
-  measure_refused g = ap (map_result size_of) (sym (layout_refused payload (reply_is layout_of e g)))
+module _ (payload : List ℕ) where
+  pub measure_refused : {f : Failure} → error f ≡ check_layout payload → error f ≡ map_result size_of (decode_payload payload)
+  measure_refused e = ap (map_result size_of) (sym (layout_refused payload (sym e)))
 
-  module _ {base n units : ℕ} (g : x ≡ layout.Layout base n units) where
-    pub laid_out : LayoutPassed payload base n units
-    laid_out = layout_passed payload (reply_is layout_of e g)
+  module _ {l : Layout} (e : ok l ≡ check_layout payload) where
+    pub measure_checked : UnitsChecked payload l.base l.strings
+    measure_checked = (layout_passed payload (sym e)).checked
 
-    pub measure_checked : UnitsChecked payload base n
-    measure_checked = laid_out.checked
-
-    pub measure_strings : (y : StringsReply) → strings_reply_of y ≡ map_result size_of (check_pairing payload base n)
-        → strings_reply_of y ≡ map_result size_of (decode_payload payload)
-    measure_strings y m = m ∙ ap (map_result size_of) (sym laid_out.strings)
+    pub measure_strings : {m : Result DecodedSize} → m ≡ map_result size_of (check_pairing payload l.base l.strings) → m ≡ map_result size_of (decode_payload payload)
+    measure_strings m = m ∙ ap (map_result size_of) (sym (layout_passed payload (sym e)).strings)
 
 -- ---- the outcomes of `put_payload`
 
 abbrev strings_in : List ℕ → List (List ℕ)
 strings_in payload = values_of (decode_payload payload)
 
-module _ (payload t s : List ℕ) (at : Position) (f : FitsAt (decode_payload payload) (length t) (length s) at) {x : HeaderReply} (e : header_of x ≡ check_header payload) where
-  module _ {base n : ℕ} (g : x ≡ header.Header base n) where
-    is_passed : PayloadPassed payload base n (strings_in payload)
+module _ (payload t s : List ℕ) (at : Position) (f : FitsAt (decode_payload payload) (length t) (length s) at) where
+  module _ {h : Header} (e : ok h ≡ check_header payload) where
+    is_passed : PayloadPassed payload h.base h.strings (strings_in payload)
     is_passed =
         let p = payload_passed payload f.passed in
-        let q = sym p.1.0 ∙ reply_is header_of e g in
-        let z : ◌≡◌ {A = Header} p.0 (record { base = base; strings = n }) = cc in
-        subst (λ (h : Header). PayloadPassed payload h.base h.strings (strings_in payload)) z p.1.1
+        subst (λ (g : Header). PayloadPassed payload g.base g.strings (strings_in payload)) (same_value (sym p.1.0 ∙ sym e)) p.1.1
 
-    pub put_fits : StringsFit payload base n at.byte (length t) at.string (length s)
+    pub put_fits : StringsFit payload h.base h.strings at.byte (length t) at.string (length s)
     put_fits =
         let p = is_passed in
         record {
@@ -240,53 +211,40 @@ module _ (payload t s : List ℕ) (at : Position) (f : FitsAt (decode_payload pa
           spans = omega (arith, f.spans, p.many);
         }
 
-    pub put_index : length s * 8 < 2 ^ 63 → at.string + n < 2 ^ 64
-    put_index l = omega (arith, put_fits.spans)
-
-    pub put_writes : {next : ℕ} {t' s' : List ℕ} → WritesStrings (stored_strings payload base n 0 n) at.byte at.string t s next t' s'
-        → WritesAt (decode_payload payload) at t s (record { byte = next; string = at.string + n }) t' s'
+    pub put_writes : {next : Position} {t' s' : List ℕ} → WritesAt (ok (stored_strings payload h.base h.strings 0 h.strings)) at t s next t' s'
+        → WritesAt (decode_payload payload) at t s next t' s'
     put_writes {next} {t'} {s'} w =
         let p = is_passed in
-        record {
-          strings = omega (arith, p.many);
-          writes = subst (λ (ss : List (List ℕ)). WritesStrings ss at.byte at.string t s next t' s') (sym p.is) w;
-        }
+        let e : ◌≡◌ {A = Result (List (List ℕ))} (ok (stored_strings payload h.base h.strings 0 h.strings)) (decode_payload payload) = ap ok (sym p.is) ∙ sym f.passed in
+        subst (λ (m : Result (List (List ℕ))). WritesAt m at t s next t' s') e w
 
   -- a payload that has strings has a header
-  pub put_never : {r : MatError} → x ≡ header.Error r → WritesAt (decode_payload payload) at t s at t s
-  put_never {r} g =
+  pub put_never : {r : Failure} → error r ≡ check_header payload → WritesAt (decode_payload payload) at t s at t s
+  put_never {r} e =
       let p = payload_passed payload f.passed in
-      let q = sym p.1.0 ∙ reply_is header_of e g in
+      let q = sym p.1.0 ∙ sym e in
       let z : ◌≡◌ {A = ℕ} 0 1 = cc in
       absurd (omega arith)
 
 -- ---- the outcomes of `decode_string_saveobj`
 
-pub counts_are : (m : Result (List (List ℕ))) {b n : ℕ} → ◌≡◌ {A = Result DecodedSize} (map_result size_of m) (ok (record { bytes = b; strings = n }))
-    → (m ≡ ok (values_of m)) × (length (joined (values_of m)) ≡ b) × (length (values_of m) ≡ n)
-counts_are (ok ss) {b} {n} e =
-    let k : ◌≡◌ {A = DecodedSize} (size_of ss) (record { bytes = b; strings = n }) = cc in
+pub counts_are : (m : Result (List (List ℕ))) {size : DecodedSize} → ok size ≡ map_result size_of m
+    → (m ≡ ok (values_of m)) × (length (joined (values_of m)) ≡ size.bytes) × (length (values_of m) ≡ size.strings)
+counts_are (ok ss) e =
+    let k = same_value (sym e) in
     (refl, ap (λ (c : DecodedSize). c.bytes) k, ap (λ (c : DecodedSize). c.strings) k)
-counts_are (error f) {b} {n} e =
+counts_are (error f) e =
     let z : ◌≡◌ {A = ℕ} 0 1 = cc in
     absurd (omega arith)
-
-pub error_is : (m : Result (List (List ℕ))) {f : Failure} → map_result size_of m ≡ error f → m ≡ error f
-error_is (ok ss) {f} e =
-    let z : ◌≡◌ {A = ℕ} 0 1 = cc in
-    absurd (omega arith)
-error_is (error g) {f} e =
-    let k : g ≡ f = cc in
-    ap error k
 
 -- ---- 34 for the text and the spans of strings
 
 module _ (b n text_room span_room : ℕ) where
   module _ (fits : b ≤ text_room) where
-    pub outputs_spans : 2 * n < 2 ^ 64 → span_room < 2 * n → checked_of (checked.Failed (OutputTooShort (2 * n))) ≡ check_outputs b n text_room span_room
+    pub outputs_spans : 2 * n < 2 ^ 64 → span_room < 2 * n → error (record { number = 34; place = 2 * n }) ≡ check_outputs b n text_room span_room
     outputs_spans f h = let p : min (2 * n) (2 ^ 64 - 1) ≡ 2 * n = omega arith in simp (le-leb b text_room fits, lt-leb (2 * n) span_room h, p)
 
-    pub outputs_fit : 2 * n ≤ span_room → checked_of checked.Passed ≡ check_outputs b n text_room span_room
+    pub outputs_fit : 2 * n ≤ span_room → ok tt ≡ check_outputs b n text_room span_room
     outputs_fit h = simp (le-leb b text_room fits, le-leb (2 * n) span_room h)
 
   outputs_passed : check_outputs b n text_room span_room ≡ ok tt → (b ≤ text_room) × (2 * n ≤ span_room)
@@ -298,8 +256,8 @@ module _ (b n text_room span_room : ℕ) where
 -- ---- what a call comes to that writes the strings of a result
 
 module _ (m : Result (List (List ℕ))) (text spans : List ℕ) where
-  comes : (n : Result (List (List ℕ))) {r : StringsReply} {text' spans' : List ℕ} → into_strings m (length text) (length spans) ≡ n
-      → strings_reply_of r ≡ map_result size_of n → text' ≡ overwritten joined n text → spans' ≡ overwritten (spans_from 0) n spans
+  comes : (n : Result (List (List ℕ))) {r : Reply DecodedSize MatError} {text' spans' : List ℕ} → into_strings m (length text) (length spans) ≡ n
+      → outcome r ≡ map_result size_of n → text' ≡ overwritten joined n text → spans' ≡ overwritten (spans_from 0) n spans
       → DecodesStrings m text spans r text' spans'
   comes n e p q s = record {
     reply = p ∙ ap (map_result size_of) (sym e);
@@ -307,39 +265,46 @@ module _ (m : Result (List (List ℕ))) (text spans : List ℕ) where
     spans_after = s ∙ ap (λ (n : Result (List (List ℕ))). overwritten (spans_from 0) n spans) (sym e);
   }
 
-  module _ (x : StringsReply) (e : strings_reply_of x ≡ map_result size_of m) where
-    pub decode_refused : {f : MatError} → x ≡ reply.Error f → DecodesStrings m text spans (reply.Error f) text spans
-    decode_refused {f} g = comes (error (failure_of f)) (rw (error_is m (reply_is strings_reply_of e g))) refl refl refl
+  -- a refusal
+  pub refuses : {e : MatError} → m ≡ error (failure_of e) → DecodesStrings m text spans (Err e) text spans
+  refuses {e} h = comes (error (failure_of e)) (rw h) refl refl refl
 
-    module _ {b n : ℕ} (g : x ≡ reply.Strings b n) where
-      counts : (m ≡ ok (values_of m)) × (length (joined (values_of m)) ≡ b) × (length (values_of m) ≡ n)
-      counts = counts_are m (reply_is strings_reply_of e g)
+  -- one that `?` hands on
+  pub hands_on : (r : Reply DecodedSize MatError) (e : MatError) → IsErr r × IsErrAnd r (λ y. y ≡ e) → m ≡ error (failure_of e) → DecodesStrings m text spans r text spans
+  hands_on r e p h = comes (error (failure_of e)) (rw h) (handed_on r e p) refl refl
 
-      module _ {y : Checked} (o : checked_of y ≡ check_outputs b n (length text) (length spans)) where
-        fitted : {z : Checked} → y ≡ z → into_strings m (length text) (length spans) ≡ (checked_of z >> ok (values_of m))
-        fitted h =
-            ap (λ (k : Result (List (List ℕ))). into_strings k (length text) (length spans)) counts.0
-            ∙ rw (counts.1, counts.2) (rw (reply_is checked_of o h))
+  module _ {size : DecodedSize} (e : ok size ≡ map_result size_of m) where
+    counts : (m ≡ ok (values_of m)) × (length (joined (values_of m)) ≡ size.bytes) × (length (values_of m) ≡ size.strings)
+    counts = counts_are m e
 
-        pub decode_short : {f : MatError} → y ≡ checked.Failed f → DecodesStrings m text spans (reply.Error f) text spans
-        decode_short {f} h = comes (error (failure_of f)) (fitted h) refl refl refl
+    fitted : {c : Result (Unit {0})} → c ≡ check_outputs size.bytes size.strings (length text) (length spans) → into_strings m (length text) (length spans) ≡ (c >> ok (values_of m))
+    fitted h =
+        ap (λ (k : Result (List (List ℕ))). into_strings k (length text) (length spans)) counts.0
+        ∙ rw (counts.1, counts.2) (rw (sym h))
 
-        module _ (h : y ≡ checked.Passed) where
-          pub decode_fits : FitsAt m (length text) (length spans) origin
-          decode_fits =
-              let r = outputs_passed b n (length text) (length spans) (reply_is checked_of o h) in
-              record { passed = counts.0; text = omega (arith, counts.1, r.0); spans = omega (arith, counts.2, r.1) }
+    pub decode_short : {f : MatError} → error (failure_of f) ≡ check_outputs size.bytes size.strings (length text) (length spans) → DecodesStrings m text spans (Err f) text spans
+    decode_short {f} h = comes (error (failure_of f)) (fitted h) refl refl refl
 
-          pub decode_written : {next : Position} {text' spans' : List ℕ} → WritesAt m origin text spans next text' spans'
-              → DecodesStrings m text spans (reply.Strings b n) text' spans'
-          decode_written w =
-              let l = counts.1 in
-              let k = counts.2 in
-              comes (ok (values_of m)) (fitted h) (rw (l, k)) (w.writes.text_after ∙ put_front text (joined (values_of m)))
-              (w.writes.spans_after ∙ put_front spans (spans_from 0 (values_of m)))
+    -- one that `?` hands on
+    pub hands_on_short : (r : Reply DecodedSize MatError) (f : MatError) → IsErr r × IsErrAnd r (λ y. y ≡ f)
+        → error (failure_of f) ≡ check_outputs size.bytes size.strings (length text) (length spans) → DecodesStrings m text spans r text spans
+    hands_on_short r f p h = comes (error (failure_of f)) (fitted h) (handed_on r f p) refl refl
+
+    module _ (h : ok tt ≡ check_outputs size.bytes size.strings (length text) (length spans)) where
+      pub decode_fits : FitsAt m (length text) (length spans) origin
+      decode_fits =
+          let r = outputs_passed size.bytes size.strings (length text) (length spans) (sym h) in
+          record { passed = counts.0; text = omega (arith, counts.1, r.0); spans = omega (arith, counts.2, r.1) }
+
+      pub decode_written : {next : Position} {text' spans' : List ℕ} → WritesAt m origin text spans next text' spans'
+          → DecodesStrings m text spans (Ok size) text' spans'
+      decode_written w =
+          let c = counts in
+          comes (ok (values_of m)) (fitted h) (ap ok (sym (same_value (sym (e ∙ ap (map_result size_of) c.0))))) (w.text_after ∙ put_front text (joined (values_of m)))
+          (w.spans_after ∙ put_front spans (spans_from 0 (values_of m)))
 
 -- the values of the spans of a payload fit 64 bits
-pub decode_values : (payload : List ℕ) {x : StringsReply} {b n : ℕ} → x ≡ reply.Strings b n → strings_reply_of x ≡ map_result size_of (decode_payload payload) → 2 * n < 2 ^ 64
-decode_values payload g e =
-    let c = counts_are (decode_payload payload) (reply_is strings_reply_of e g) in
+pub decode_values : (payload : List ℕ) {size : DecodedSize} → ok size ≡ map_result size_of (decode_payload payload) → 2 * size.strings < 2 ^ 64
+decode_values payload e =
+    let c = counts_are (decode_payload payload) e in
     omega (arith, c.2, (payload_most payload c.0).1)

@@ -4,7 +4,7 @@ use Prim.Native.Nat.{ℕ, zero, suc, ◌+◌, ◌-◌, ◌*◌, ◌^◌, ◌≤�
 use mathlib.Core.Path.{◌≡◌, refl, sym, ap, subst, ◌∙◌}
 use mathlib.Core.Bool.{Bool, true, false, not, ◌&&◌}
 use mathlib.Core.List.{List, [], ◌∷◌, ◌++◌, flat_map}
-use mathlib.Core.Option.{some}
+use Rattle.std.specs.Prelude.{Some, None}
 use native.Mathlib.Nat.{add-zero}
 use native.Mathlib.Numerals.{add-one}
 use native.Mathlib.Omega.{arith}
@@ -13,9 +13,8 @@ use lib.ListN.{length, take, set, length-append}
 use Rattle.text.specs.Buffer.{put, Puts}
 use Rattle.text.specs.Result.{ok, error, map_result}
 use Rattle.text.specs.Unicode.{is_high_surrogate, is_low_surrogate, is_surrogate, utf8}
-use Rattle.text.specs.Utf16.{pair_value, text_of, the_text}
+use Rattle.text.specs.Utf16.{pair_value, scalar, text_of, the_text}
 use Rattle.text.specs.Stages.Utf16.{unit_step_at}
-use Rattle.text.specs.declared.utf16.UnitStep.TheVariants.{Scalar, Unpaired}
 use Rattle.text.proofs.BufferLaws.{SoFar, Splits, fits_next, goes_on, fits_from, begins_from, ends_from}
 use Rattle.text.proofs.ByteLaws.{stores, size_1, size_2, size_3, size_4}
 use Rattle.text.proofs.utf16.Decode as decoding
@@ -27,7 +26,8 @@ use Rattle.writer.proofs.LayoutLaws.{joined_cons, spans_none, spans_cons, length
 use Rattle.writer.proofs.SpanLaws.{counted_some, counted_none}
 use Rattle.reader.specs.Saveobj.{unit_count, units_before, stored_units, stored_strings, check_pairing}
 use Rattle.reader.specs.Replies.{size_of}
-use Rattle.reader.specs.Stages.Saveobj.{UnitsChecked, StringsFit, WritesStrings}
+use Rattle.reader.specs.Stages.Saveobj.{UnitsChecked, StringsFit, WritesAt}
+use Rattle.reader.specs.declared.saveobj.Position.{Position}
 use Rattle.reader.specs.Units.{unit_at, units_in}
 use Rattle.reader.specs.Stages.Units.{UnitsInside, UnitsFit}
 use Rattle.reader.proofs.saveobj.Lengths.{units_next, units_most}
@@ -74,7 +74,7 @@ module _ (payload : List ℕ) (base n : ℕ) where
     units_are = rw (a, c)
 
 -- strings that pass 29 have at most three bytes for a unit
-pub stored_most : (payload : List ℕ) (base n : ℕ) → ((i : ℕ) → i < n → text_of (stored_units payload base n i) ≡ some (the_text (stored_units payload base n i)))
+pub stored_most : (payload : List ℕ) (base n : ℕ) → ((i : ℕ) → i < n → text_of (stored_units payload base n i) ≡ Some (the_text (stored_units payload base n i)))
     → (i k : ℕ) → i + k ≤ n → length (joined (stored_strings payload base n i k)) + 3 * units_before payload base i ≤ 3 * units_before payload base (i + k)
 unfolding stored_strings flat_map
 stored_most payload base n p i zero h = rw (add-zero i) (omega arith)
@@ -163,7 +163,7 @@ module _ {payload : List ℕ} {base n bytes k i end : ℕ} (w : Within payload b
     inside = omega (arith, w.at, w.last)
 
     -- one step
-    goes : {v c size k' : ℕ} → Scalar v c ≡ unit_step_at us w.j → size ≡ length (utf8 v) → size ≤ 4 → k' ≡ k + c → Within payload base n (bytes + size) k' i end
+    goes : {v c size k' : ℕ} → Some (scalar v c) ≡ unit_step_at us w.j → size ≡ length (utf8 v) → size ≤ 4 → k' ≡ k + c → Within payload base n (bytes + size) k' i end
     goes {v} {c} {size} {k'} s z f e = record {
       before = w.before;
       more = w.more + size;
@@ -177,7 +177,7 @@ module _ {payload : List ℕ} {base n bytes k i end : ℕ} (w : Within payload b
       text = decoding.measure_size w.text (omega (arith, many, inside)) s refl (z, f);
     }
 
-    stops : Unpaired ≡ unit_step_at us w.j → error (record { number = 29; place = i }) ≡ map_result size_of (check_pairing payload base n)
+    stops : None ≡ unit_step_at us w.j → error (record { number = 29; place = i }) ≡ map_result size_of (check_pairing payload base n)
     unfolding check_pairing
     stops s =
         let f = counted_none (text_of us) (decoding.measure_stop w.text (omega (arith, many, inside)) s refl) in
@@ -187,7 +187,7 @@ module _ {payload : List ℕ} {base n bytes k i end : ℕ} (w : Within payload b
       is_unit : u ≡ unit_at payload (base + n) (units_before payload base i + w.j)
       is_unit = e ∙ ap (unit_at payload (base + n)) w.at
 
-      single : is_surrogate u ≡ false → Scalar u 1 ≡ unit_step_at us w.j
+      single : is_surrogate u ≡ false → Some (scalar u 1) ≡ unit_step_at us w.j
       single g = step_single payload (base + n) (units_before payload base i) (unit_count payload base i) w.j inside is_unit g
 
       pub measure_1 : u < 0x80 → Within payload base n (bytes + 1) (k + 1) i end
@@ -252,32 +252,33 @@ pub ruleset measures = (measure_1, measure_2, measure_3, measure_4, measure_alon
 
 -- ---- writing
 
--- the strings before string i are written, the last up to byte `byte`, and their spans
-pub record Writing (payload : List ℕ) (base n : ℕ) (t₀ : List ℕ) (start : ℕ) (s₀ : List ℕ) (index : ℕ) (t s : List ℕ) (byte unit i : ℕ) : Type 0 where
+-- the strings before string i are written, and their spans; next is the position after them
+pub record Writing (payload : List ℕ) (base n : ℕ) (t₀ s₀ : List ℕ) (at₀ : Position) (t s : List ℕ) (next : Position) (unit i : ℕ) : Type 0 where
   pub at : unit ≡ units_before payload base i
   pub bound : i ≤ n
-  pub text : SoFar (take start t₀ ++ joined (stored_strings payload base n 0 n)) (joined (left payload base n i)) t₀ t byte
-  pub spans : SoFar (take (2 * index) s₀ ++ spans_from start (stored_strings payload base n 0 n)) (spans_from byte (left payload base n i)) s₀ s (2 * (index + i))
+  pub string : next.string ≡ at₀.string + i
+  pub text : SoFar (take at₀.byte t₀ ++ joined (stored_strings payload base n 0 n)) (joined (left payload base n i)) t₀ t next.byte
+  pub spans : SoFar (take (2 * at₀.string) s₀ ++ spans_from at₀.byte (stored_strings payload base n 0 n)) (spans_from next.byte (left payload base n i)) s₀ s (2 * next.string)
 
-module _ (payload : List ℕ) (base n : ℕ) (t₀ : List ℕ) (start : ℕ) (s₀ : List ℕ) (index : ℕ) (f : StringsFit payload base n start (length t₀) index (length s₀)) where
+module _ (payload : List ℕ) (base n : ℕ) (t₀ s₀ : List ℕ) (at₀ : Position) (f : StringsFit payload base n at₀.byte (length t₀) at₀.string (length s₀)) where
   abbrev all : List (List ℕ)
   all = stored_strings payload base n 0 n
 
-  span_room_lem : 2 * index + length (spans_from start all) ≤ length s₀
-  span_room_lem = omega (arith, f.spans, length_spans start all, length_stored payload base n 0 n)
+  span_room_lem : 2 * at₀.string + length (spans_from at₀.byte all) ≤ length s₀
+  span_room_lem = omega (arith, f.spans, length_spans at₀.byte all, length_stored payload base n 0 n)
 
-  pub write_start : Writing payload base n t₀ start s₀ index t₀ s₀ start 0 0
+  pub write_start : Writing payload base n t₀ s₀ at₀ t₀ s₀ at₀ 0 0
   unfolding units_before
   write_start =
-      let z : 2 * (index + 0) ≡ 2 * index = omega arith in
       record {
         at = refl;
         bound = omega arith;
-        text = rw (left_all payload base n) (begins_from t₀ (joined all) start f.text);
-        spans = rw (left_all payload base n, z) (begins_from s₀ (spans_from start all) (2 * index) span_room_lem);
+        string = omega arith;
+        text = rw (left_all payload base n) (begins_from t₀ (joined all) at₀.byte f.text);
+        spans = rw (left_all payload base n) (begins_from s₀ (spans_from at₀.byte all) (2 * at₀.string) span_room_lem);
       }
 
-  module _ {t s : List ℕ} {byte unit i count : ℕ} (m : Writing payload base n t₀ start s₀ index t s byte unit i) (h : i < n) (c : count ≡ unit_count payload base i) where
+  module _ {t s : List ℕ} {next : Position} {unit i count : ℕ} (m : Writing payload base n t₀ s₀ at₀ t s next unit i) (h : i < n) (c : count ≡ unit_count payload base i) where
     abbrev string : List ℕ
     string = the_text (units_in payload (base + n) unit count)
 
@@ -289,42 +290,48 @@ module _ (payload : List ℕ) (base n : ℕ) (t₀ : List ℕ) (start : ℕ) (s�
       is = ap joined (left_next payload base n h) ∙ joined_cons _ _ ∙ ap (λ (x : List ℕ). x ++ joined (left payload base n (i + 1))) (sym string_is);
     }
 
-    spans_next : Splits (spans_from byte (left payload base n i)) (byte ∷ length string ∷ []) (spans_from (byte + length string) (left payload base n (i + 1)))
+    spans_next : Splits (spans_from next.byte (left payload base n i)) (next.byte ∷ length string ∷ []) (spans_from (next.byte + length string) (left payload base n (i + 1)))
     spans_next = record { is = rw (left_next payload base n h, spans_cons, string_is) }
 
-    pub write_fits : UnitsFit payload (base + n) unit count byte (length t)
+    pub write_fits : UnitsFit payload (base + n) unit count next.byte (length t)
     write_fits = record {
       inside = units_inside payload base n f.checked m.at h c;
       is_text_lem = rw (units_are payload base n f.checked m.at h c) (f.paired i h);
-      fits = fits_next (fits_from t₀ (joined all) start f.text) text_next m.text;
+      fits = fits_next (fits_from t₀ (joined all) at₀.byte f.text) text_next m.text;
     }
 
-    pub write_span : 2 * (index + i) + 2 ≤ length s
-    write_span = fits_next (fits_from s₀ (spans_from start all) (2 * index) span_room_lem) spans_next m.spans
+    pub write_span : 2 * next.string + 2 ≤ length s
+    write_span = fits_next (fits_from s₀ (spans_from at₀.byte all) (2 * at₀.string) span_room_lem) spans_next m.spans
 
     pub write_unit : unit + count < 2 ^ 64
     write_unit = let u = write_fits.inside in omega arith
 
-    pub write_turn : {t' : List ℕ} {end : ℕ} → Puts t byte string end t'
-        → Writing payload base n t₀ start s₀ index t' (set (set s (2 * (index + i)) byte) (2 * (index + i) + 1) (end - byte)) end (unit + count) (i + 1)
+    pub write_turn : {t' : List ℕ} {end : ℕ} → Puts t next.byte string end t'
+        → Writing payload base n t₀ s₀ at₀ t' (set (set s (2 * next.string) next.byte) (2 * next.string + 1) (end - next.byte)) (record { byte = end; string = next.string + 1 }) (unit + count) (i + 1)
     write_turn {t'} {end} p =
-        let l : end - byte ≡ length string = omega (arith, p.end) in
-        let k : 2 * (index + i) + 1 ≡ suc (2 * (index + i)) = omega arith in
-        let s' : List ℕ = set (set s (2 * (index + i)) byte) (2 * (index + i) + 1) (end - byte) in
-        let e : s' ≡ put s (2 * (index + i)) (byte ∷ length string ∷ []) =
-        rw (l, k) (stores (byte ∷ length string ∷ []) s (2 * (index + i)) write_span) in
-        let q = goes_on (fits_from s₀ (spans_from start all) (2 * index) span_room_lem) spans_next m.spans s' (2 * (index + (i + 1))) e (omega arith) in
+        let l : end - next.byte ≡ length string = omega (arith, p.end) in
+        let k : 2 * next.string + 1 ≡ suc (2 * next.string) = omega arith in
+        let s' : List ℕ = set (set s (2 * next.string) next.byte) (2 * next.string + 1) (end - next.byte) in
+        let e : s' ≡ put s (2 * next.string) (next.byte ∷ length string ∷ []) =
+        rw (l, k) (stores (next.byte ∷ length string ∷ []) s (2 * next.string) write_span) in
+        let q = goes_on (fits_from s₀ (spans_from at₀.byte all) (2 * at₀.string) span_room_lem) spans_next m.spans s' (2 * (next.string + 1)) e (omega arith) in
         record {
           at = omega (arith, m.at, units_next payload base i);
           bound = omega arith;
-          text = goes_on (fits_from t₀ (joined all) start f.text) text_next m.text t' end p.buffer p.end;
+          string = omega (arith, m.string);
+          text = goes_on (fits_from t₀ (joined all) at₀.byte f.text) text_next m.text t' end p.buffer p.end;
           spans =
-              subst (λ (b : ℕ). SoFar (take (2 * index) s₀ ++ spans_from start all) (spans_from b (left payload base n (i + 1))) s₀ s' (2 * (index + (i + 1)))) (sym p.end) q;
+              subst (λ (b : ℕ). SoFar (take (2 * at₀.string) s₀ ++ spans_from at₀.byte all) (spans_from b (left payload base n (i + 1))) s₀ s' (2 * (next.string + 1))) (sym p.end) q;
         }
 
-  pub write_last : {t s : List ℕ} {byte unit i : ℕ} → Writing payload base n t₀ start s₀ index t s byte unit i → n ≤ i → WritesStrings all start index t₀ s₀ byte t s
+  pub write_last : {t s : List ℕ} {next : Position} {unit i : ℕ} → Writing payload base n t₀ s₀ at₀ t s next unit i → n ≤ i → WritesAt (ok all) at₀ t₀ s₀ next t s
   unfolding flat_map
   write_last m h =
-      let p = ends_from t₀ (joined all) start f.text (rw (left_none payload base n h) at m.text) in
-      let q = ends_from s₀ (spans_from start all) (2 * index) span_room_lem (rw (left_none payload base n h, spans_none) at m.spans) in
-      record { end = p.end; text_after = p.buffer; spans_after = q.buffer }
+      let p = ends_from t₀ (joined all) at₀.byte f.text (rw (left_none payload base n h) at m.text) in
+      let q = ends_from s₀ (spans_from at₀.byte all) (2 * at₀.string) span_room_lem (rw (left_none payload base n h, spans_none) at m.spans) in
+      record {
+        strings = omega (arith, m.string, m.bound, length_stored payload base n 0 n);
+        end = p.end;
+        text_after = p.buffer;
+        spans_after = q.buffer;
+      }

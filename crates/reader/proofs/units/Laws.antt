@@ -1,25 +1,23 @@
--- Code units in words: the steps of decoding them, the longest text of units, and whether they fill the words.
+-- Code units in words: the steps of decoding them, and the longest text of units.
 -- Assumes nothing.
 use mathlib.Core.Path.{◌≡◌, refl, ◌∙◌, ap}
 use mathlib.Core.Bool.{Bool, true, false, ◌&&◌}
 use mathlib.Core.List.{List, [], ◌∷◌}
-use mathlib.Core.Option.{some}
-use Prim.Native.Nat.{ℕ, zero, suc, ◌+◌, ◌-◌, ◌*◌, ◌/◌, ◌%◌, ◌^◌, ◌≤◌, ◌<◌}
+use Rattle.std.specs.Prelude.{Some, None}
+use Prim.Native.Nat.{ℕ, zero, suc, ◌+◌, ◌-◌, ◌*◌, ◌≤◌, ◌<◌}
 use native.Mathlib.Omega.{arith}
-use borrow.Author.Tests.{lt-ltb, le-ltb, ltb-true, eq-eqb, ne_eqb}
-use lib.Dec.{ltb, eqb}
-use lib.ListN.{length, get_or, get_or-eq_default}
+use borrow.Author.Tests.{lt-ltb, le-ltb, ltb-true}
+use lib.Dec.{ltb}
+use lib.ListN.{length, get_or}
 use Rattle.text.specs.Unicode.{Below, is_high_surrogate, is_low_surrogate, is_surrogate, utf8s}
-use Rattle.text.specs.Utf16.{pair_value, unit_step, scalars16, text_of}
+use Rattle.text.specs.Utf16.{pair_value, scalar, unit_step, scalars16, text_of}
 use Rattle.text.specs.Stages.Utf16.{unit_step_at}
-use Rattle.text.specs.declared.utf16.UnitStep.TheVariants.{Scalar, Unpaired}
 use Rattle.text.proofs.utf16.Decode.{single_step, alone_step, pair_step, unpaired_step, Reading, reads_start}
 use Rattle.text.proofs.ScalarLaws.{gap_below, bytes_le}
 use Rattle.text.proofs.TestLaws.{and_is}
 use Rattle.text.proofs.Utf8Laws.{map_is}
 use Rattle.text.proofs.Utf16Laws.{spelled16}
 use Rattle.reader.specs.Units.{unit_at, units_in}
-use Rattle.reader.specs.Stages.Units.{is_packed}
 
 pub length_units : (w : List ℕ) (first k n : ℕ) → length (units_in w first k n) ≡ n
 unfolding units_in
@@ -56,10 +54,10 @@ pub record Pair (us : List ℕ) (i : ℕ) : Type 0 where
   pub more : i + 1 < length us
   pub high : is_high_surrogate (get_or us i 0) ≡ true
   pub low : is_low_surrogate (get_or us (i + 1) 0) ≡ true
-  pub is : Scalar (pair_value (get_or us i 0) (get_or us (i + 1) 0)) 2 ≡ unit_step_at us i
+  pub is : Some (scalar (pair_value (get_or us i 0) (get_or us (i + 1) 0)) 2) ≡ unit_step_at us i
 
 pub pair_by : (us : List ℕ) (i : ℕ) (more pair : Bool) → is_surrogate (get_or us i 0) ≡ true → ltb (i + 1) (length us) ≡ more
-    → (is_high_surrogate (get_or us i 0) && is_low_surrogate (get_or us (i + 1) 0)) ≡ pair → (Unpaired ≡ unit_step_at us i → ⊥) → Pair us i
+    → (is_high_surrogate (get_or us i 0) && is_low_surrogate (get_or us (i + 1) 0)) ≡ pair → (None ≡ unit_step_at us i → ⊥) → Pair us i
 pair_by us i true true g m p never =
     let h = and_is _ _ p in
     record { more = ltb-true _ _ m; high = h.0; low = h.1; is = rw m (pair_step _ _ g p) }
@@ -70,15 +68,15 @@ pair_by us i false pair g m p never = absurd (never (rw m (alone_step _ _ g)))
 
 module _ (w : List ℕ) (first k n i : ℕ) {u : ℕ} (h : i < n) (eu : u ≡ unit_at w first (k + i)) where
   -- no surrogate: the unit alone
-  pub step_single : is_surrogate u ≡ false → Scalar u 1 ≡ unit_step_at (units_in w first k n) i
+  pub step_single : is_surrogate u ≡ false → Some (scalar u 1) ≡ unit_step_at (units_in w first k n) i
   step_single g = rw (unit_of w first k n i h, ← eu) (single_step u _ _ g)
 
-  pub step_one : u < 0xD800 → Scalar u 1 ≡ unit_step_at (units_in w first k n) i
+  pub step_one : u < 0xD800 → Some (scalar u 1) ≡ unit_step_at (units_in w first k n) i
   step_one l = step_single (gap_below u l)
 
   module _ (g : is_surrogate u ≡ true) where
     -- the last unit
-    pub step_last : n - i < 2 → Unpaired ≡ unit_step_at (units_in w first k n) i
+    pub step_last : n - i < 2 → None ≡ unit_step_at (units_in w first k n) i
     step_last l =
         let m = length_units w first k n in
         rw (unit_of w first k n i h, ← eu, le-ltb (i + 1) (length (units_in w first k n)) (omega arith)) (alone_step u _ g)
@@ -89,32 +87,15 @@ module _ (w : List ℕ) (first k n i : ℕ) {u : ℕ} (h : i < n) (eu : u ≡ un
           let m = length_units w first k n in
           rw (unit_of w first k n i h, unit_of w first k n (i + 1) (omega arith), lt-ltb (i + 1) (length (units_in w first k n)) (omega arith), eu, ev)
 
-      pub step_pair : (is_high_surrogate u && is_low_surrogate v) ≡ true → Scalar (pair_value u v) 2 ≡ unit_step_at (units_in w first k n) i
+      pub step_pair : (is_high_surrogate u && is_low_surrogate v) ≡ true → Some (scalar (pair_value u v) 2) ≡ unit_step_at (units_in w first k n) i
       step_pair p = pair_step u v g p ∙ step_more
 
-      pub step_unpaired : (is_high_surrogate u && is_low_surrogate v) ≡ false → Unpaired ≡ unit_step_at (units_in w first k n) i
+      pub step_unpaired : (is_high_surrogate u && is_low_surrogate v) ≡ false → None ≡ unit_step_at (units_in w first k n) i
       step_unpaired p = unpaired_step u v g p ∙ step_more
 
 -- a text has at most three bytes a unit
-pub text_most : (w : List ℕ) (first k n : ℕ) {t : List ℕ} → text_of (units_in w first k n) ≡ some t → length t ≤ 3 * n
+pub text_most : (w : List ℕ) (first k n : ℕ) {t : List ℕ} → text_of (units_in w first k n) ≡ Some t → length t ≤ 3 * n
 text_most w first k n e =
     let o = map_is utf8s (scalars16 (units_in w first k n)) e in
     let s = spelled16 (units_in w first k n) (units_below w first k n) o.0 o.1.0 in
     omega (arith, ap length s.units, ap length o.1.1, bytes_le o.0, length_units w first k n)
-
--- ---- the returns of `is_packed`
-
-module _ (w : List ℕ) (first n : ℕ) where
-  pub packed_not : (length w ≡ first + (n + 3) / 4 → ⊥) → false ≡ is_packed w first n
-  unfolding is_packed
-  packed_not h = simp (ne_eqb (length w) (first + (n + 3) / 4) h)
-
-  module _ (h : length w ≡ first + (n + 3) / 4) where
-    -- the last unit fills its word
-    pub packed_full : n % 4 ≡ 0 → true ≡ is_packed w first n
-    unfolding is_packed
-    packed_full e = simp (eq-eqb (length w) (first + (n + 3) / 4) h, get_or-eq_default w 0 {n = first + n / 4} (omega arith), e)
-
-    pub packed_last : eqb (get_or w (first + n / 4) 0 / 2 ^ (16 * (n % 4))) 0 ≡ is_packed w first n
-    unfolding is_packed
-    packed_last = simp (eq-eqb (length w) (first + (n + 3) / 4) h)

@@ -3,16 +3,16 @@
 use mathlib.Core.Path.{◌≡◌, refl, ◌∙◌, sym, ap, ap₂, subst}
 use mathlib.Core.Bool.{Bool, true, false, not}
 use mathlib.Core.List.{List, [], ◌∷◌, ◌++◌}
-use mathlib.Core.Option.{some, some-injective}
+use Rattle.std.specs.Prelude.{Some}
+use Rattle.std.proofs.lemmas.Option.{same_Some}
 use Prim.Native.Nat.{ℕ, ◌+◌, ◌/◌, ◌%◌, ◌^◌, ◌≤◌, ◌<◌}
 use native.Mathlib.Omega.{arith}
 use borrow.Author.Tests.{not-true, not-false}
 use lib.ListN.{length, get_or, take, drop, set, drop_of_length-le}
 use Rattle.text.specs.Buffer.{Puts}
 use Rattle.text.specs.Unicode.{is_high_surrogate, is_low_surrogate, is_surrogate, utf8, utf8s}
-use Rattle.text.specs.Utf16.{pair_value, scalars16, the_text}
+use Rattle.text.specs.Utf16.{pair_value, scalar, scalars16, the_text}
 use Rattle.text.specs.Stages.Utf16.{unit_step_at}
-use Rattle.text.specs.declared.utf16.UnitStep.TheVariants.{Scalar}
 use Rattle.text.proofs.BufferLaws.{SoFar, Splits, fits_next, goes_on, fits_from, begins_from, ends_from}
 use Rattle.text.proofs.ByteLaws.{size_1, size_2, size_3, size_4, writes_1, writes_2, writes_3, writes_4}
 use Rattle.text.proofs.utf16.Decode.{Reading, found, found_unpaired, reads_on}
@@ -54,7 +54,7 @@ pub record Writing (w : List ℕ) (first k n : ℕ) (d₀ : List ℕ) (at : ℕ)
   pub is : i ≡ k + j
   pub reading : Reading (units_in w first k n) j
   pub more : List ℕ
-  pub rest : scalars16 (drop j (units_in w first k n)) ≡ some more
+  pub rest : scalars16 (drop j (units_in w first k n)) ≡ Some more
   pub room : at + length (the_text (units_in w first k n)) ≤ length d₀
   pub so_far : SoFar (take at d₀ ++ the_text (units_in w first k n)) (utf8s more) d₀ d o
 
@@ -82,8 +82,8 @@ module _ {w : List ℕ} {first k n : ℕ} {d₀ : List ℕ} {at : ℕ} {d : List
     here : m.j < length us
     here = omega (arith, length_units w first k n, inside)
 
-    module _ {v c : ℕ} (e : Scalar v c ≡ unit_step_at us m.j) where
-      left : (vs : List ℕ) × ((scalars16 (drop (m.j + c) us) ≡ some vs) × (m.more ≡ v ∷ vs))
+    module _ {v c : ℕ} (e : Some (scalar v c) ≡ unit_step_at us m.j) where
+      left : (vs : List ℕ) × ((scalars16 (drop (m.j + c) us) ≡ Some vs) × (m.more ≡ v ∷ vs))
       left = map_is (λ vs. v ∷ vs) (scalars16 (drop (m.j + c) us)) (sym (found m.reading here e refl).rest ∙ m.rest)
 
       splits : Splits (utf8s m.more) (utf8 v) (utf8s left.0)
@@ -108,7 +108,7 @@ module _ {w : List ℕ} {first k n : ℕ} {d₀ : List ℕ} {at : ℕ} {d : List
       unit = e ∙ ap (unit_at w first) m.is
 
       module _ (l : u < 0x800) where
-        one : Scalar u 1 ≡ unit_step_at us m.j
+        one : Some (scalar u 1) ≡ unit_step_at us m.j
         one = step_one w first k n m.j inside unit (omega arith)
 
         pub two_fit : 0x80 ≤ u → TwoFit u o (length d)
@@ -128,7 +128,7 @@ module _ {w : List ℕ} {first k n : ℕ} {d₀ : List ℕ} {at : ℕ} {d : List
 
       module _ {r : Bool} (g : r ≡ is_surrogate u) where
         module _ (t : not r ≡ true) where
-          single : Scalar u 1 ≡ unit_step_at us m.j
+          single : Some (scalar u 1) ≡ unit_step_at us m.j
           single = step_single w first k n m.j inside unit (sym g ∙ not-true r t)
 
           pub three_fit : 0x800 ≤ u → u < 2 ^ 16 → ThreeFit u o (length d)
@@ -159,8 +159,8 @@ module _ {w : List ℕ} {first k n : ℕ} {d₀ : List ℕ} {at : ℕ} {d : List
             first_is : u ≡ get_or us m.j 0
             first_is = unit ∙ sym (unit_of w first k n m.j inside)
 
-            two : Scalar (pair_value u l) 2 ≡ unit_step_at us m.j
-            two = ap₂ (λ (x y : ℕ). Scalar (pair_value x y) 2) first_is next ∙ pair.is
+            two : Some (scalar (pair_value u l) 2) ≡ unit_step_at us m.j
+            two = ap₂ (λ (x y : ℕ). Some (scalar (pair_value x y) 2)) first_is next ∙ pair.is
 
             pub pair_fits : PairFits u l o (length d)
             pair_fits =
@@ -180,5 +180,5 @@ module _ {w : List ℕ} {first k n : ℕ} {d₀ : List ℕ} {at : ℕ} {d : List
   pub write_last : k + n ≤ i → Puts d₀ at (the_text us) o d
   write_last h =
       let l : length us ≤ m.j = omega (arith, length_units w first k n, m.is) in
-      let z : m.more ≡ [] = some-injective m.more [] (sym m.rest ∙ ap scalars16 (drop_of_length-le us l) ∙ scalars16_nil) in
+      let z : m.more ≡ [] = same_Some m.more [] (sym m.rest ∙ ap scalars16 (drop_of_length-le us l) ∙ scalars16_nil) in
       ends_from d₀ (the_text us) at m.room (rw (ap utf8s z ∙ utf8s_nil) at m.so_far)

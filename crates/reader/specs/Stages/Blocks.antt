@@ -1,10 +1,7 @@
 -- What the stages that walk property blocks promise each other.
 -- Assumes nothing.
 use Rattle.std.specs.Prelude.{ℕ, ◌≤◌, List, length}
-use Rattle.text.specs.Result.{Result, ok, error}
 use Rattle.reader.specs.Blocks.{block_end, block_at}
-use Rattle.reader.specs.declared.blocks.BlockCount.{BlockCount}
-use Rattle.reader.specs.declared.blocks.BlockCount.TheVariants as count
 
 -- blocks 0 to k of the region that begins at start are whole
 pub record HasBlock (size : ℕ) (b : List ℕ) (start k : ℕ) : Type 0 where
@@ -18,8 +15,3 @@ pub record IsRegion (b : List ℕ) (i e size : ℕ) : Type 0 where
   pub inside : e ≤ length b
   pub most : length b ≤ 16777216
   pub small : size ≤ 12
-
--- the blocks of a region, or 7
-abbrev pub block_count_of : BlockCount → Result ℕ
-block_count_of (count.Blocks n) = ok n
-block_count_of (count.Truncated i) = error (record { number = 7; place = i })

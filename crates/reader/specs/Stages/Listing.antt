@@ -1,25 +1,24 @@
 -- What the stages of the object listing promise each other.
 -- Assumes nothing.
-use Rattle.std.specs.Prelude.{ℕ, ◌+◌, ◌/◌, ◌≤◌, ◌<◌, ◌*◌, ◌-◌, ◌≡◌, cond, List, eqb, get_or, length}
-use Rattle.text.specs.Errors.{failure_of}
-use Rattle.text.specs.Result.{Result, ok, ◌>>◌, error, values_of, map_result}
-use Rattle.text.specs.declared.reply.LengthReply.{LengthReply}
+use Rattle.std.specs.Prelude.{ℕ, ◌+◌, ◌/◌, ◌≤◌, ◌<◌, ◌*◌, ◌-◌, ◌≡◌, Bool, List, get_or, length, IfOk, Result as Reply}
+use Rattle.text.specs.Replies.{outcome}
+use Rattle.text.specs.Result.{Result, ok, ◌>>◌, values_of, map_result}
+use Rattle.text.specs.declared.error.MatError.{MatError}
 use Rattle.reader.specs.Blocks.{block_at}
 use Rattle.reader.specs.Objects.{objects_from, object_rows, region_start, region_blocks, no_row}
 use Rattle.reader.specs.Queries.{into_output}
-use Rattle.reader.specs.Stages.Opening.{Opens}
+use Rattle.reader.specs.Stages.Objects.{number_of}
 use Rattle.reader.specs.declared.file_wrapper.FileWrapper.{FileWrapper}
+use Rattle.reader.specs.declared.file_wrapper.Metadata.{Metadata}
 use Rattle.reader.specs.declared.listing.Cursor.{Cursor}
 use Rattle.reader.specs.declared.listing.Cursors.{Cursors}
 use Rattle.reader.specs.declared.listing.Listing.{Listing}
-use Rattle.reader.specs.declared.listing.Listing.TheVariants as listing
-use Rattle.reader.specs.declared.listing.ObjectList.{ObjectList}
-use Rattle.reader.specs.declared.listing.ObjectsCheck.{ObjectsCheck}
-use Rattle.reader.specs.declared.listing.ObjectsCheck.TheVariants as objects_check
-use Rattle.reader.specs.declared.listing.Plan.{Plan}
+use Rattle.reader.specs.declared.plan.Plan.{Plan}
 use Rattle.reader.specs.declared.listing.Step.{Step}
 use Rattle.reader.specs.declared.objects.BlockId.{BlockId}
 use Rattle.reader.specs.declared.objects.ObjectRow.{ObjectRow}
+use Rattle.reader.specs.declared.objects.Region.{Region}
+use Rattle.reader.specs.declared.objects.Region.TheVariants.{Saved, Normal}
 
 -- ---- the checks
 
@@ -27,10 +26,9 @@ use Rattle.reader.specs.declared.objects.ObjectRow.{ObjectRow}
 abbrev pub check_objects : List ℕ → FileWrapper → ℕ → ℕ → Result (Unit {0})
 check_objects b w id n = objects_from b w id n >> ok tt
 
--- whether all of them hold
-abbrev pub objects_check_of : ObjectsCheck → Result (Unit {0})
-objects_check_of (objects_check.Passed falls) = ok tt
-objects_check_of (objects_check.Failed e) = error (failure_of e)
+-- whether all of them hold, and then whether block ids fall, of which nothing is promised
+abbrev pub ChecksObjects : List ℕ → FileWrapper → Reply Bool MatError → Type 0
+ChecksObjects b w x = map_result (λ _. tt) (outcome x) ≡ check_objects b w 1 (w.records - 1)
 
 -- the rows of a blob whose listing is accepted
 abbrev pub all_objects : List ℕ → List ObjectRow
@@ -38,41 +36,29 @@ all_objects b = values_of (object_rows b)
 
 -- ---- the index of blocks
 
--- both regions' entries have their places in the index
-pub record PlanFor (w : FileWrapper) (p : Plan) : Type 0 where
-  pub is : p.w ≡ w
-  pub least : 1 ≤ p.stride
-  pub most : p.stride ≤ 16777217
-  pub apart : w.saveobj_blocks / p.stride < p.normalobj
-  pub room : p.normalobj + w.normalobj_blocks / p.stride < 8192
-
--- the same of an opened blob
-pub record IsPlan (b : List ℕ) (p : Plan) : Type 0 where
-  pub opens : Opens b p.w
-  pub plan : PlanFor p.w p
-
 -- the entry of block 0 of region g
-abbrev pub first_entry : Plan → ℕ → ℕ
-first_entry p g = cond (eqb g 0) 0 p.normalobj
+abbrev pub first_entry : Plan → Region → ℕ
+first_entry p Saved = 0
+first_entry p Normal = p.normalobj
 
 -- entry j of region g
-unfoldable pub index_entry : List ℕ → Plan → ℕ → ℕ → ℕ
+unfoldable pub index_entry : List ℕ → Plan → Region → ℕ → ℕ
 index_entry index p g j = get_or index (first_entry p g + j) 0
 
 -- it is the byte of block j * stride
-abbrev pub IsEntry : List ℕ → List ℕ → Plan → ℕ → ℕ → Type 0
-IsEntry b index p g j = index_entry index p g j ≡ block_at 12 b (region_start p.w g) (j * p.stride)
+abbrev pub IsEntry : List ℕ → Plan → Region → ℕ → Type 0
+IsEntry index p g j = index_entry index p g j ≡ block_at 12 p.metadata.blob.now (region_start p.metadata.w (number_of g)) (j * p.stride)
 
 -- the entries of region g are filled, those before them kept
-pub record Fills (b : List ℕ) (p : Plan) (g : ℕ) (index index' : List ℕ) : Type 0 where
+pub record Fills (p : Plan) (g : Region) (index index' : List ℕ) : Type 0 where
   pub size : length index' ≡ 8192
   pub kept : (k : ℕ) → k < first_entry p g → get_or index' k 0 ≡ get_or index k 0
-  pub entries : (j : ℕ) → j * p.stride < region_blocks p.w g → IsEntry b index' p g j
+  pub entries : (j : ℕ) → j * p.stride < region_blocks p.metadata.w (number_of g) → IsEntry index' p g j
 
 -- every entry of both regions is filled
-pub record Indexes (b : List ℕ) (p : Plan) (index : List ℕ) : Type 0 where
+pub record Indexes (p : Plan) (index : List ℕ) : Type 0 where
   pub size : length index ≡ 8192
-  pub entries : (g j : ℕ) → j * p.stride < region_blocks p.w g → IsEntry b index p g j
+  pub entries : (g : Region) (j : ℕ) → j * p.stride < region_blocks p.metadata.w (number_of g) → IsEntry index p g j
 
 -- ---- cursors
 
@@ -88,13 +74,15 @@ cursor_at b start k = record { block = k; at = block_at 12 b start k }
 abbrev pub cursor_from : List ℕ → Cursor → ℕ → Cursor
 cursor_from b c k = record { block = k; at = block_at 12 b c.at (k - c.block) }
 
--- the cursor of region g, "0 saved, 1 normal"
-abbrev pub cursor_of : Cursors → ℕ → Cursor
-cursor_of cs g = cond (eqb g 0) cs.saveobj cs.normalobj
+-- the cursor of a region
+abbrev pub cursor_of : Cursors → Region → Cursor
+cursor_of cs Saved = cs.saveobj
+cursor_of cs Normal = cs.normalobj
 
--- the cursors with that of region g moved to c
-abbrev pub with_cursor : Cursors → ℕ → Cursor → Cursors
-with_cursor cs g c = cond (eqb g 0) (record { saveobj = c; normalobj = cs.normalobj }) (record { saveobj = cs.saveobj; normalobj = c })
+-- the cursors with that of a region moved to c
+abbrev pub with_cursor : Cursors → Region → Cursor → Cursors
+with_cursor cs Saved c = record { saveobj = c; normalobj = cs.normalobj }
+with_cursor cs Normal c = record { saveobj = cs.saveobj; normalobj = c }
 
 -- before any block is looked for, each cursor stands at block 0 of its region
 abbrev pub first_cursors : FileWrapper → Cursors
@@ -104,14 +92,13 @@ first_cursors w = record {
 }
 
 -- each cursor stands at the block of its region that it names
-pub record AreCursors (b : List ℕ) (w : FileWrapper) (cs : Cursors) : Type 0 where
-  pub saveobj : IsCursor b w.offsets.o1 cs.saveobj
-  pub normalobj : IsCursor b w.offsets.o3 cs.normalobj
+pub record AreCursors (m : Metadata) (cs : Cursors) : Type 0 where
+  pub saveobj : IsCursor m.blob.now m.w.offsets.o1 cs.saveobj
+  pub normalobj : IsCursor m.blob.now m.w.offsets.o3 cs.normalobj
 
 -- the entry before a block of its region lies in the index
-pub record EntryInside (p : Plan) (k : BlockId) : Type 0 where
-  pub least : 1 ≤ p.stride
-  pub room : first_entry p k.region + k.id / p.stride < 8192
+abbrev pub EntryInside : Plan → BlockId → Type 0
+EntryInside p k = first_entry p k.region + k.id / p.stride < 8192
 
 -- a cursor not past the block, that of the region or of its entry: in whatever blob both are right, it is too
 pub record Nearest (index : List ℕ) (p : Plan) (cs : Cursors) (k : BlockId) (c : Cursor) : Type 0 where
@@ -120,62 +107,36 @@ pub record Nearest (index : List ℕ) (p : Plan) (cs : Cursors) (k : BlockId) (c
       → index_entry index p k.region (k.id / p.stride) ≡ block_at 12 b start (k.id / p.stride * p.stride) → IsCursor b start c
 
 -- the blob's region has this block, and index and cursors are the blob's
-pub record ToBlock (b index : List ℕ) (p : Plan) (cs : Cursors) (k : BlockId) : Type 0 where
-  pub plan : IsPlan b p
-  pub indexes : Indexes b p index
-  pub cursors : AreCursors b p.w cs
-  pub below : k.id < region_blocks p.w k.region
+pub record ToBlock (index : List ℕ) (p : Plan) (cs : Cursors) (k : BlockId) : Type 0 where
+  pub indexes : Indexes p index
+  pub cursors : AreCursors p.metadata cs
+  pub below : k.id < region_blocks p.metadata.w (number_of k.region)
 
 -- ---- the listing
 
--- how many objects a listing has, or the refusal
-abbrev pub listing_reply_of : Listing → Result ℕ
-listing_reply_of (listing.Objects p n) = ok n
-listing_reply_of (listing.Refused e) = error (failure_of e)
+-- the objects of an opened blob pass check 10
+abbrev pub Listable : Metadata → Type 0
+Listable m = objects_from m.blob.now m.w 1 (m.w.records - 1) ≡ ok (all_objects m.blob.now)
 
--- how many rows a reply leaves to be written
-abbrev pub count_of : Result ℕ → ℕ
-count_of (ok n) = n
-count_of (error e) = 0
-
--- the blob is open, and its objects pass check 10
-pub record Listable (b : List ℕ) (p : Plan) : Type 0 where
-  pub plan : IsPlan b p
-  pub rows : objects_from b p.w 1 (p.w.records - 1) ≡ ok (all_objects b)
-
--- what a listing says of the blob; a refused one says nothing
-abbrev pub IsListing : List ℕ → Listing → Type 0
-IsListing b (listing.Objects p n) = Listable b p × (n ≡ p.w.records - 1)
-IsListing b (listing.Refused e) = Unit {0}
+-- what a listing says of the blob
+pub record IsListing (b : List ℕ) (x : Listing) : Type 0 where
+  pub blob : x.plan.metadata.blob.now ≡ b
+  pub listable : Listable x.plan.metadata
+  pub count : x.count ≡ x.plan.metadata.w.records - 1
 
 -- the listing of a blob for so many rows
-pub record ListingFor (b : List ℕ) (room : ℕ) (x : Listing) : Type 0 where
-  pub reply : listing_reply_of x ≡ map_result length (into_output (object_rows b) room)
-  pub is : IsListing b x
+pub record ListingFor (b : List ℕ) (room : ℕ) (x : Reply Listing MatError) : Type 0 where
+  pub reply : map_result (λ (l : Listing). l.count) (outcome x) ≡ map_result length (into_output (object_rows b) room)
+  pub is : IfOk x (IsListing b)
 
--- the index of a listing's blocks; a refused one has none
-abbrev pub HasIndex : List ℕ → Listing → List ℕ → Type 0
-HasIndex b (listing.Objects p n) index = Indexes b p index
-HasIndex b (listing.Refused e) index = Unit {0}
+-- object i is one of the blob's, and index and cursors are the blob's
+pub record ToNext (index : List ℕ) (p : Plan) (cs : Cursors) (i : ℕ) : Type 0 where
+  pub listable : Listable p.metadata
+  pub indexes : Indexes p index
+  pub cursors : AreCursors p.metadata cs
+  pub below : i + 1 < p.metadata.w.records
 
--- the first step of a listing; a refused one has none
-abbrev pub FirstStep : Listing → Step → Type 0
-FirstStep (listing.Objects p n) s = (s.plan ≡ p) × (s.cursors ≡ first_cursors p.w)
-FirstStep (listing.Refused e) s = Unit {0}
-
--- object i is one of the blob's, and the step and the index are the blob's
-pub record ToNext (b index : List ℕ) (s : Step) (i : ℕ) : Type 0 where
-  pub listable : Listable b s.plan
-  pub indexes : Indexes b s.plan index
-  pub cursors : AreCursors b s.plan.w s.cursors
-  pub below : i + 1 < s.plan.w.records
-
--- the same listing, with object i read
-pub record NextObject (b : List ℕ) (s : Step) (i : ℕ) (s' : Step) : Type 0 where
-  pub plan : s'.plan ≡ s.plan
-  pub cursors : AreCursors b s.plan.w s'.cursors
-  pub row : s'.row ≡ get_or (all_objects b) i no_row
-
--- the listing by value: its reply and its rows
-abbrev pub object_list : LengthReply → List ObjectRow → ObjectList
-object_list r rows = record { reply = r; rows = rows }
+-- object i, and cursors that are the blob's
+pub record NextObject (m : Metadata) (i : ℕ) (s : Step) : Type 0 where
+  pub cursors : AreCursors m s.cursors
+  pub row : s.row ≡ get_or (all_objects m.blob.now) i no_row

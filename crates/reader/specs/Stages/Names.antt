@@ -1,12 +1,12 @@
 -- What the stages that find a name promise each other.
 -- Assumes nothing.
-use Rattle.std.specs.Prelude.{ℕ, ◌+◌, ◌-◌, ◌≤◌, ◌<◌, ◌≡◌, Bool, cond, false, List, [], ◌∷◌, leb, eqb, length, get_or, drop}
+use Rattle.std.specs.Prelude.{ℕ, ◌+◌, ◌-◌, ◌≤◌, ◌≡◌, cond, List, [], ◌∷◌, leb, eqb, length, drop}
 use Rattle.std.proofs.Math.Seq.{slice}
 use Rattle.text.specs.Buffer.{same}
-use Rattle.reader.specs.Names.{ShownText, pieces, name_bytes, shown_bytes}
+use Rattle.text.specs.Utf8.{lossy}
+use Rattle.reader.specs.Names.{pieces, shown_bytes}
 use Rattle.reader.specs.declared.names.Compared.{Compared}
-use Rattle.reader.specs.declared.names.Piece.{Piece}
-use Rattle.reader.specs.declared.names.PieceSize.{PieceSize}
+use Rattle.text.specs.declared.utf8.LossySize.{LossySize}
 use Rattle.reader.specs.declared.names.Skipped.{Skipped}
 
 -- the pieces from byte i up to end, none past it
@@ -60,47 +60,14 @@ pub record HasName (b : List ℕ) (end index : ℕ) : Type 0 where
 pub record PieceBegins (b : List ℕ) (end x start : ℕ) : Type 0 where
   pub rest : pieces_from b end start ≡ drop (x - 1) (heap_pieces b end)
 
--- a walk of names first up to end of a heap: a table of what f gives for each, whether one of these is not empty, and where name end begins
-pub record Tabulates {A : Type 0} (b : List ℕ) (heap_end : ℕ) (empty : A) (f : ℕ → A) (first end : ℕ) (table : List A) (any : Bool) (next : ℕ) : Type 0 where
-  pub order : first ≤ end
-  pub size : length table ≡ 4096
-  pub is : (i : ℕ) → first ≤ i → i < end → get_or table (i - first) empty ≡ f i
-  pub none : any ≡ false → (i : ℕ) → first ≤ i → i < end → f i ≡ empty
-  pub heap : PieceBegins b heap_end end next
-
 -- there is piece index, and it begins at i
 pub record HasPieceAt (b : List ℕ) (end index i : ℕ) : Type 0 where
   pub inside : i ≤ end
   pub stands : PieceBegins b end index i
 
--- the bytes of a piece
-abbrev pub piece_bytes : List ℕ → Piece → List ℕ
-piece_bytes b p = slice p.start p.end b
-
--- the bytes of name index
-pub record IsName (b : List ℕ) (end index : ℕ) (p : Piece) : Type 0 where
-  pub order : p.start ≤ p.end
-  pub inside : p.end ≤ length b
-  pub is : piece_bytes b p ≡ name_bytes b end index
-
--- a piece lies in the blob, which is short enough for any sum of its bytes
-pub record InBlob (b : List ℕ) (p : Piece) : Type 0 where
-  pub order : p.start ≤ p.end
-  pub inside : p.end ≤ length b
-  pub most : length b ≤ 16777216
-
--- a piece as it is shown
-abbrev pub shown_piece : List ℕ → Piece → ShownText
-shown_piece b p = shown_bytes (piece_bytes b p)
-
--- its size, whose numbers are small enough for any sum of two
-pub record IsSize (b : List ℕ) (p : Piece) (s : PieceSize) : Type 0 where
-  pub bytes : s.bytes ≡ length (shown_piece b p).text
-  pub most : s.bytes ≤ 50331648
-  pub replaced : s.replaced ≡ (shown_piece b p).replaced
-  pub few : s.replaced ≤ 16777216
-
--- two pieces of a blob
-pub record BothInBlob (b : List ℕ) (p q : Piece) : Type 0 where
-  pub first : InBlob b p
-  pub second : InBlob b q
+-- the size of bytes as they are shown, whose numbers are small enough for any sum of two
+pub record IsSize (s : List ℕ) (n : LossySize) : Type 0 where
+  pub bytes : n.bytes ≡ length (lossy s)
+  pub most : n.bytes ≤ 50331648
+  pub replaced : n.replaced ≡ (shown_bytes s).replaced
+  pub few : n.replaced ≤ 16777216

@@ -1,7 +1,7 @@
 -- What the stages that read and write the text of code units in words promise each other.
 -- Assumes nothing.
 use Rattle.std.specs.Prelude.{ℕ, ◌+◌, ◌*◌, ◌/◌, ◌%◌, ◌^◌, ◌-◌, ◌≤◌, ◌<◌, ◌≡◌, Bool, ◌&&◌, List, eqb, length, get_or}
-use Rattle.std.proofs.Math.Option.{some}
+use Rattle.std.specs.Prelude.{Some}
 use Rattle.text.specs.Utf16.{text_of, the_text}
 use Rattle.reader.specs.Units.{units_in}
 
@@ -17,7 +17,7 @@ pub record UnitsInside (words : List ℕ) (first k n : ℕ) : Type 0 where
 -- they have a text, and from index at on there is room for it
 pub record UnitsFit (words : List ℕ) (first k n at room : ℕ) : Type 0 where
   pub inside : UnitsInside words first k n
-  pub is_text_lem : text_of (units_in words first k n) ≡ some (the_text (units_in words first k n))
+  pub is_text_lem : text_of (units_in words first k n) ≡ Some (the_text (units_in words first k n))
   pub fits : at + length (the_text (units_in words first k n)) ≤ room
 
 -- a unit whose text has two bytes, and from index at on there is room for them

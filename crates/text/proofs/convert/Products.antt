@@ -1,24 +1,17 @@
 -- Products below 2^64: one by a division, and those of dimensions by a loop.
 -- Assumes nothing.
 use Prim.Native.Nat.{ℕ, ◌+◌, ◌-◌, ◌*◌, ◌^◌, ◌≤◌, ◌<◌}
-use mathlib.Core.Path.{◌≡◌, refl, sym, ◌∙◌}
-use mathlib.Core.Bool.{Bool, true, false, not}
-use mathlib.Core.List.{List, [], ◌∷◌}
+use mathlib.Core.Path.{◌≡◌, refl, sym, ap, ◌∙◌}
+use Rattle.std.proofs.lemmas.List.{length-map, get_or-map}
+use mathlib.Core.List.{List, [], ◌∷◌, map}
 use native.Mathlib.Numerals.{add-one}
 use native.Mathlib.Omega.{arith}
-use borrow.Author.Tests.{ltb-true, not-true, not-false}
-use lib.Dec.{ltb}
+use borrow.Author.Tests.{lt-ltb, le-ltb}
+use Rattle.std.specs.Prelude.{Ok, Err, Result as Reply}
 use lib.ListN.{length, get_or, take, drop}
 use lib.Seq.{drop-cons, drop-length}
 use Rattle.text.specs.Product.{product_from, product_of, check_product}
 use Rattle.text.specs.Result.{Result, ok, ◌>>=◌}
-use Rattle.text.specs.declared.convert.Product.{Product}
-use Rattle.text.specs.declared.convert.Product.TheVariants.{Of, OverflowAt}
-
--- ---- a product, by a division
-
-pub product_below : {r : Bool} (a b : ℕ) → r ≡ ltb (a * b) (2 ^ 64) → not r ≡ false → a * b < 2 ^ 64
-product_below {r} a b e t = ltb-true (a * b) (2 ^ 64) (sym e ∙ not-false r t)
 
 -- ---- a loop that multiplies dimensions: this is the product of those before dimension i
 
@@ -27,49 +20,55 @@ pub record Multiplying (dims : List ℕ) (product i : ℕ) : Type 0 where
   pub below : product < 2 ^ 64
   pub rest : product_of dims ≡ product_from i product (drop i dims)
 
-module _ (dims : List ℕ) where
-  pub multiply_start : Multiplying dims 1 0
+-- the dimensions as the file stores them, and what each is as a number
+module _ {D : Type 0} (size : D → ℕ) (ds : List D) where
+  pub multiply_start : Multiplying (map size ds) 1 0
   unfolding product_of
   multiply_start = record { bound = omega arith; below = omega arith; rest = refl }
 
-  module _ {product i : ℕ} (m : Multiplying dims product i) where
-    module _ {r : Bool} (h : i < length dims) (e : r ≡ ltb (product * get_or dims i 0) (2 ^ 64)) where
-      pub multiply_turn : not r ≡ false → Multiplying dims (product * get_or dims i 0) (i + 1)
+  module _ {product i : ℕ} (m : Multiplying (map size ds) product i) where
+    module _ (h : i < length ds) {d : D} (at : d ≡ get_or ds i d) {n : ℕ} (e : n ≡ size d) where
+      inside : i < length (map size ds)
+      inside = omega (arith, length-map ds size)
+
+      is_size : get_or (map size ds) i 0 ≡ n
+      is_size = get_or-map size ds i d 0 h ∙ ap size (sym at) ∙ sym e
+
+      pub multiply_turn : {p : ℕ} → (product * n < 2 ^ 64) × (p ≡ product * n) → Multiplying (map size ds) p (i + 1)
       unfolding product_from
       multiply_turn t = record {
-        bound = omega arith;
-        below = product_below product (get_or dims i 0) e t;
-        rest = rw add-one (rw (drop-cons dims i 0 h, sym e ∙ not-false r t) at m.rest);
+        bound = omega (arith, length-map ds size);
+        below = omega (arith, t.0, t.1);
+        rest = rw (add-one, t.1) (rw (drop-cons (map size ds) i 0 inside, is_size, lt-ltb (product * n) (2 ^ 64) t.0) at m.rest);
       }
 
-      pub multiply_stop : not r ≡ true → OverflowAt i ≡ product_of dims
+      pub multiply_stop : (product * n < 2 ^ 64 → ⊥) → Err i ≡ product_of (map size ds)
       unfolding product_from
-      multiply_stop t = sym (rw (drop-cons dims i 0 h, sym e ∙ not-true r t) at m.rest)
+      multiply_stop t =
+          sym (rw (drop-cons (map size ds) i 0 inside, is_size, le-ltb (product * n) (2 ^ 64) (omega (arith, t))) at m.rest)
 
-    pub multiply_last : length dims ≤ i → Of product ≡ product_of dims
+    pub multiply_last : length ds ≤ i → Ok product ≡ product_of (map size ds)
     unfolding product_from
     multiply_last h =
-        let s : i ≡ length dims = omega (arith, m.bound) in
-        sym (rw (s, drop-length dims) at m.rest)
-
-pub ruleset multiplies = (multiply_start, product_below, multiply_turn, multiply_stop, multiply_last)
+        let s : i ≡ length (map size ds) = omega (arith, m.bound, length-map ds size) in
+        sym (rw (s, drop-length (map size ds)) at m.rest)
 
 -- ---- what callers know of a product
 
 -- the dimensions of a scalar
-pub product_scalar : product_of (1 ∷ 1 ∷ []) ≡ Of 1
+pub product_scalar : product_of (1 ∷ 1 ∷ []) ≡ Ok 1
 unfolding product_of product_from
 product_scalar = refl
 
 -- the n dimensions from index a on, which the code cuts out by their end
-pub product_is : {x y : Product} (a n : ℕ) (w : List ℕ) → x ≡ product_of (take (a + n - a) (drop a w)) → x ≡ y → product_of (take n (drop a w)) ≡ y
+pub product_is : {x y : Reply ℕ ℕ} (a n : ℕ) (w : List ℕ) → x ≡ product_of (take (a + n - a) (drop a w)) → x ≡ y → product_of (take n (drop a w)) ≡ y
 product_is a n w e g =
     let k : a + n - a ≡ n = omega arith in
     sym (rw k at e) ∙ g
 
-pub product_passed : (number : ℕ) (x : Product) {A : Type 0} (f : ℕ → Result A) {b : A} → (check_product number x >>= f) ≡ ok b
-    → (p : ℕ) × ((x ≡ Of p) × (f p ≡ ok b))
-product_passed number (Of p) f e = (p, (refl, e))
-product_passed number (OverflowAt i) f {b} e =
+pub product_passed : (number : ℕ) (x : Reply ℕ ℕ) {A : Type 0} (f : ℕ → Result A) {b : A} → (check_product number x >>= f) ≡ ok b
+    → (p : ℕ) × ((x ≡ Ok p) × (f p ≡ ok b))
+product_passed number (Ok p) f e = (p, (refl, e))
+product_passed number (Err i) f {b} e =
     let z : ◌≡◌ {A = ℕ} 0 1 = cc in
     absurd (omega arith)

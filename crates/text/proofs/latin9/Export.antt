@@ -3,37 +3,34 @@
 use mathlib.Core.Path.{◌≡◌, refl, ◌∙◌, sym, ap, ap₂}
 use mathlib.Core.Bool.{Bool, true, false, not}
 use mathlib.Core.List.{List, [], ◌∷◌}
-use mathlib.Core.Option.{Option, some, none, map, some-injective}
-use Prim.Native.Nat.{ℕ, suc, ◌+◌, ◌-◌, ◌*◌, ◌%◌, ◌^◌, ◌≤◌, ◌<◌, min}
+use Rattle.std.specs.Prelude.{Option, Some, None, Ok, Err}
+use Rattle.std.specs.Option.{option_map}
+use Rattle.std.proofs.lemmas.Option.{same_Some}
+use Prim.Native.Nat.{ℕ, suc, ◌+◌, ◌-◌, ◌^◌, ◌≤◌, ◌<◌, min}
 use native.Mathlib.Numerals.{add-one}
 use native.Mathlib.Omega.{arith}
 use borrow.Author.Tests.{lt-leb, le-leb, lt-ltb, le-ltb, eqb-true, eqb-false, not-true, not-false}
 use lib.Dec.{ltb, eqb}
 use lib.ListN.{length, get_or, set}
 use Rattle.text.specs.Buffer.{put, Places}
-use Rattle.text.specs.Errors.{failure_of}
 use Rattle.text.specs.Latin9.{code_point, byte_of, bytes_from, latin9_bytes, export_latin9}
-use Rattle.text.specs.Stages.Latin9.{byte_reply_of, size_by, CharacterAt, BytesFit}
-use Rattle.text.specs.Replies.{length_reply_of, Writes}
+use Rattle.text.specs.Stages.Latin9.{size_by, CharacterAt, BytesFit}
+use Rattle.text.specs.Replies.{outcome, Writes}
 use Rattle.text.specs.Result.{Result, ok, error, map_result, or_error, values_of, ◌>>=◌}
 use Rattle.text.specs.Stages.Utf8.{whole_length, is_text}
 use Rattle.text.specs.Unicode.{utf8}
 use Rattle.text.specs.Utf8.{sequence_length, matched, value_at, whole_at, step_at, parts_from, scalars_of, scalars8}
-use Rattle.text.specs.declared.error.MatError.{MatError}
+use Rattle.text.specs.declared.error.Failure.{Failure}
 use Rattle.text.specs.declared.error.MatError.TheVariants.{InvalidText, UnmappableCharacter, OutputTooShort}
-use Rattle.text.specs.declared.latin9.ByteReply.{ByteReply}
-use Rattle.text.specs.declared.latin9.ByteReply.TheVariants.{Byte, Unmappable}
-use Rattle.text.specs.declared.reply.LengthReply.{LengthReply}
-use Rattle.text.specs.declared.reply.LengthReply.TheVariants.{Length, Error}
 use Rattle.text.specs.declared.utf8.Step.{Step}
 use Rattle.text.specs.declared.utf8.Step.TheVariants.{Scalar, IllFormed, End}
 use Rattle.text.proofs.BufferLaws.{SoFar, Splits, begins, fits_next, goes_on, ends, put_front, places_front}
 use Rattle.text.proofs.ByteLaws.{size_1, size_2, size_3, stores}
-use Rattle.text.proofs.utf8.Count.{broken_here, scalar_here, whole_is}
+use Rattle.text.proofs.utf8.Count.{whole_least, broken_here, scalar_here, whole_is}
 use Rattle.text.proofs.Latin9Laws.{byte_back, byte_is, ascii_point, point_top, far_none, gave_way, exported_text, own_text}
 use Rattle.text.proofs.LeadLaws.{ascii, lead_range, starts_byte, not_one}
 use Rattle.text.proofs.PartLaws.{Reads, step_reads, step_end, parts_end, parts_scalar, parts_ill_formed}
-use Rattle.text.proofs.ReplyLaws.{writes, told_length, told_error}
+use Rattle.text.proofs.ReplyLaws.{writes, told_value, told_error}
 use Rattle.text.proofs.ResultLaws.{same_value, bind_passed, or_error_passed}
 use Rattle.text.proofs.ScalarLaws.{by_size}
 use Rattle.text.proofs.TestLaws.{not_both, and_is}
@@ -47,29 +44,20 @@ does b n e = rw (e, n)
 -- ---- the returns of `byte_of`
 
 module _ {v : ℕ} {r : Bool} (h : v < 256) (is : r ≡ not (eqb (code_point v) v)) where
-  pub own_byte : not r ≡ true → byte_reply_of (Byte v) ≡ byte_of v
+  pub own_byte : not r ≡ true → Some v ≡ byte_of v
   own_byte n = sym (rw (eqb-true (code_point v) v (not-false (eqb (code_point v) v) (sym is ∙ not-true r n))) at (byte_back v h))
 
-  pub no_byte : not r ≡ false → byte_reply_of Unmappable ≡ byte_of v
+  pub no_byte : not r ≡ false → None ≡ byte_of v
   no_byte n = sym (gave_way v h (eqb-false (code_point v) v (not-true (eqb (code_point v) v) (sym is ∙ not-false r n))))
 
 -- ---- the returns of `byte_at`
 
 module _ {t : List ℕ} {i n : ℕ} (s : CharacterAt t i n) where
-  module _ {m : Option ℕ} where
-    pub two_bytes : n ≡ 2 → m ≡ byte_of (get_or t i 0 % 32 * 64 + get_or t (i + 1) 0 % 64) → m ≡ byte_of (value_at t i n)
-    unfolding value_at
-    two_bytes z e = rw z e
-
-    pub three_bytes : n ≡ 3 → m ≡ byte_of (get_or t i 0 % 16 * 4096 + get_or t (i + 1) 0 % 64 * 64 + get_or t (i + 2) 0 % 64) → m ≡ byte_of (value_at t i n)
-    unfolding value_at
-    three_bytes z e = rw z e
-
-  pub four_bytes : (n ≡ 2 → ⊥) → (n ≡ 3 → ⊥) → byte_reply_of Unmappable ≡ byte_of (value_at t i n)
-  four_bytes n2 n3 =
+  pub four_bytes : 3 < n → None ≡ byte_of (value_at t i n)
+  four_bytes few =
       let v : ℕ = value_at t i n in
       let z : n ≡ length (utf8 v) = omega (arith, took_size (step_reads t i s.step)) in
-      by_size v (λ h. absurd (omega (arith, z, size_1 v h, s.least))) (λ l h. absurd (n2 (z ∙ sym (size_2 v l h)))) (λ l h. absurd (n3 (z ∙ sym (size_3 v l h))))
+      by_size v (λ h. absurd (omega (arith, z, size_1 v h, s.least))) (λ l h. absurd (omega (arith, z, size_2 v l h))) (λ l h. absurd (omega (arith, z, size_3 v l h)))
       (λ l. far_none v (omega arith))
 
 -- ---- the loop of `is_text_from`
@@ -78,9 +66,9 @@ module _ {t : List ℕ} {i n : ℕ} (s : CharacterAt t i n) where
 pub record Checking (t : List ℕ) (start i : ℕ) : Type 0 where
   pub same : is_text (scalars_of (parts_from t start)) ≡ is_text (scalars_of (parts_from t i))
 
-still_text : (v : ℕ) (m : Option (List ℕ)) → is_text (map (λ vs. v ∷ vs) m) ≡ is_text m
-still_text v (some vs) = refl
-still_text v none = refl
+still_text : (v : ℕ) (m : Option (List ℕ)) → is_text (option_map (λ vs. v ∷ vs) m) ≡ is_text m
+still_text v (Some vs) = refl
+still_text v None = refl
 
 module _ (t : List ℕ) where
   module _ {start i : ℕ} (c : Checking t start i) where
@@ -91,39 +79,39 @@ module _ (t : List ℕ) where
     pub check_ascii : i < length t → get_or t i 0 < 128 → Checking t start (i + 1)
     check_ascii h b = check_scalar (sym (ascii t i h b))
 
-    module _ {r : ℕ} (h : i < length t) (e : r ≡ whole_length t i) where
-      pub check_whole : (r ≡ 0 → ⊥) → Checking t start (i + r)
-      check_whole z = check_scalar (scalar_here t i h e z)
+    pub check_whole : {r : ℕ} → i < length t → Some r ≡ whole_length t i → Checking t start (i + r)
+    check_whole h e = check_scalar (scalar_here t i h e)
 
-      pub check_broken : r ≡ 0 → false ≡ is_text (scalars_of (parts_from t start))
-      unfolding scalars_of
-      check_broken z = sym (rw (parts_ill_formed t i (broken_here t i h (sym e ∙ z))) at c.same)
+    pub check_broken : i < length t → None ≡ whole_length t i → false ≡ is_text (scalars_of (parts_from t start))
+    unfolding scalars_of
+    check_broken h e = sym (rw (parts_ill_formed t i (broken_here t i h e)) at c.same)
 
     pub check_last : length t ≤ i → true ≡ is_text (scalars_of (parts_from t start))
     unfolding scalars_of
     check_last h = sym (rw (parts_end t i h) at c.same)
 
 -- an ASCII character is its own byte
-ascii_byte : (b : ℕ) → b < 128 → byte_of b ≡ some b
+ascii_byte : (b : ℕ) → b < 128 → byte_of b ≡ Some b
 ascii_byte b h = rw (ascii_point b h) at (byte_back b (omega arith))
 
 -- what the test says of characters
-text_is : (m : Option (List ℕ)) → is_text m ≡ true → (vs : List ℕ) × (m ≡ some vs)
-text_is (some vs) e = (vs, refl)
-text_is none e = not_both e refl
+text_is : (m : Option (List ℕ)) → is_text m ≡ true → (vs : List ℕ) × (m ≡ Some vs)
+text_is (Some vs) e = (vs, refl)
+text_is None e = not_both e refl
 
-text_not : (m : Option (List ℕ)) → is_text m ≡ false → m ≡ none
-text_not (some vs) e = not_both refl e
-text_not none e = refl
+text_not : (m : Option (List ℕ)) → is_text m ≡ false → m ≡ None
+text_not (Some vs) e = not_both refl e
+text_not None e = refl
 
 -- a whole sequence that does not begin with an ASCII byte has two bytes at least
-stands_whole : (t : List ℕ) (i : ℕ) {r : ℕ} → i < length t → r ≡ whole_length t i → (r ≡ 0 → ⊥) → 128 ≤ get_or t i 0 → CharacterAt t i r
+stands_whole : (t : List ℕ) (i : ℕ) {r : ℕ} → i < length t → Some r ≡ whole_length t i → 128 ≤ get_or t i 0 → CharacterAt t i r
 unfolding whole_at
-stands_whole t i {r} h e z l =
-    let w = whole_is t i h e z in
-    let k = eqb-true (matched t i) (sequence_length (get_or t i 0)) (and_is (ltb 0 (sequence_length (get_or t i 0))) _ w.0).1 in
-    let s = scalar_here t i h e z in
-    record { step = s; least = omega (arith, z, w.1, k, not_one (get_or t i 0) l); inside = (step_reads t i s).advance.inside }
+stands_whole t i {r} h e l =
+    let w = whole_is t i h e in
+    let p = and_is (ltb 0 (sequence_length (get_or t i 0))) (eqb (matched t i) (sequence_length (get_or t i 0))) w.0 in
+    let k = eqb-true (matched t i) (sequence_length (get_or t i 0)) p.1 in
+    let s = scalar_here t i h e in
+    record { step = s; least = omega (arith, whole_least t i h e, w.1, k, not_one (get_or t i 0) l); inside = (step_reads t i s).advance.inside }
 
 -- the size by the first byte is that of a character that has a byte
 length_by_lem : (t : List ℕ) (i : ℕ) {v next : ℕ} → Reads t i v next → v < 0x3000 → 128 ≤ get_or t i 0 → sequence_length (get_or t i 0) ≡ size_by (get_or t i 0)
@@ -149,23 +137,23 @@ pub record Measuring (t : List ℕ) (n i : ℕ) : Type 0 where
   pub so_far : map_result length (latin9_bytes t) ≡ with_bytes n (scalars_of (parts_from t i))
 
 from_none : (m : Option (List ℕ)) → map_result length (or_error (record { number = 30; place = 0 }) m >>= bytes_from 0) ≡ with_bytes 0 m
-from_none none = refl
-from_none (some vs) = by (bytes_from 0 vs)
+from_none None = refl
+from_none (Some vs) = by (bytes_from 0 vs)
   where
     by : (k : Result (List ℕ)) → map_result length k ≡ map_result (λ bs. 0 + length bs) k
     by (ok bs) = ap ok (omega arith)
     by (error e) = refl
 
-one_more : (n v b : ℕ) → byte_of v ≡ some b → (m : Option (List ℕ)) → with_bytes n (map (λ vs. v ∷ vs) m) ≡ with_bytes (n + 1) m
+one_more : (n v b : ℕ) → byte_of v ≡ Some b → (m : Option (List ℕ)) → with_bytes n (option_map (λ vs. v ∷ vs) m) ≡ with_bytes (n + 1) m
 unfolding bytes_from
-one_more n v b e none = refl
-one_more n v b e (some vs) = rw (e, add-one) (by (bytes_from (suc n) vs))
+one_more n v b e None = refl
+one_more n v b e (Some vs) = rw (e, add-one) (by (bytes_from (suc n) vs))
   where
     by : (k : Result (List ℕ)) → map_result (λ bs. n + length bs) (k >>= λ bs. ok (b ∷ bs)) ≡ map_result (λ bs. suc n + length bs) k
     by (ok bs) = ap ok (omega arith)
     by (error e) = refl
 
-not_mapped : (n v : ℕ) → none ≡ byte_of v → (vs : List ℕ) → with_bytes n (some (v ∷ vs)) ≡ error (record { number = 36; place = n })
+not_mapped : (n v : ℕ) → None ≡ byte_of v → (vs : List ℕ) → with_bytes n (Some (v ∷ vs)) ≡ error (record { number = 36; place = n })
 unfolding bytes_from
 not_mapped n v e vs = rw (← e)
 
@@ -175,7 +163,7 @@ module _ (t : List ℕ) where
   measure_start = record { bound = omega arith; most = omega arith; so_far = from_none (scalars8 t) }
 
   module _ {n i : ℕ} (m : Measuring t n i) where
-    measure_scalar : {v next b : ℕ} → step_at t i ≡ Scalar v next → byte_of v ≡ some b → Measuring t (n + 1) next
+    measure_scalar : {v next b : ℕ} → step_at t i ≡ Scalar v next → byte_of v ≡ Some b → Measuring t (n + 1) next
     unfolding scalars_of
     measure_scalar {v} {next} {b} e y =
         let a = (step_reads t i e).advance in
@@ -188,33 +176,33 @@ module _ (t : List ℕ) where
     pub measure_ascii : i < length t → get_or t i 0 < 128 → Measuring t (n + 1) (i + 1)
     measure_ascii h b = measure_scalar (sym (ascii t i h b)) (ascii_byte (get_or t i 0) b)
 
-    module _ {r : ℕ} (h : i < length t) (e : r ≡ whole_length t i) where
-      pub measure_broken : r ≡ 0 → length_reply_of (Error (InvalidText 0)) ≡ map_result length (latin9_bytes t)
-      unfolding scalars_of
-      measure_broken z = sym (rw (parts_ill_formed t i (broken_here t i h (sym e ∙ z))) at m.so_far)
+    pub measure_broken : i < length t → None ≡ whole_length t i → outcome {A = ℕ} (Err (InvalidText 0)) ≡ map_result length (latin9_bytes t)
+    unfolding scalars_of
+    measure_broken h e = sym (rw (parts_ill_formed t i (broken_here t i h e)) at m.so_far)
 
-      module _ (l : 128 ≤ get_or t i 0) (some : r ≡ 0 → ⊥) where
+    module _ {r : ℕ} (h : i < length t) (e : Some r ≡ whole_length t i) where
+      module _ (l : 128 ≤ get_or t i 0) where
         pub measure_stands : CharacterAt t i r
-        measure_stands = stands_whole t i h e some l
+        measure_stands = stands_whole t i h e l
 
-        module _ {x : ByteReply} (is : byte_reply_of x ≡ byte_of (value_at t i r)) where
-          pub measure_byte : {b : ℕ} → x ≡ Byte b → Measuring t (n + 1) (i + r)
-          measure_byte {b} g = measure_scalar measure_stands.step (sym is ∙ ap byte_reply_of g)
+        module _ {x : Option ℕ} (is : x ≡ byte_of (value_at t i r)) where
+          pub measure_byte : {b : ℕ} → x ≡ Some b → Measuring t (n + 1) (i + r)
+          measure_byte {b} g = measure_scalar measure_stands.step (sym is ∙ g)
 
-          module _ (g : x ≡ Unmappable) {y : Bool} (rest : y ≡ is_text (scalars_of (parts_from t (i + r)))) where
-            left_over : map_result length (latin9_bytes t) ≡ with_bytes n (map (λ vs. value_at t i r ∷ vs) (scalars_of (parts_from t (i + r))))
+          module _ (g : x ≡ None) {y : Bool} (rest : y ≡ is_text (scalars_of (parts_from t (i + r)))) where
+            left_over : map_result length (latin9_bytes t) ≡ with_bytes n (option_map (λ vs. value_at t i r ∷ vs) (scalars_of (parts_from t (i + r))))
             unfolding scalars_of
             left_over = rw (parts_scalar t i measure_stands.step) at m.so_far
 
-            pub measure_unmappable : y ≡ true → length_reply_of (Error (UnmappableCharacter n)) ≡ map_result length (latin9_bytes t)
+            pub measure_unmappable : y ≡ true → outcome (Err (UnmappableCharacter n)) ≡ map_result length (latin9_bytes t)
             measure_unmappable q =
                 let k = text_is (scalars_of (parts_from t (i + r))) (sym rest ∙ q) in
-                sym (left_over ∙ rw k.1 (not_mapped n (value_at t i r) (sym (ap byte_reply_of g) ∙ is) k.0))
+                sym (left_over ∙ rw k.1 (not_mapped n (value_at t i r) (sym g ∙ is) k.0))
 
-            pub measure_late : y ≡ false → length_reply_of (Error (InvalidText 0)) ≡ map_result length (latin9_bytes t)
+            pub measure_late : y ≡ false → outcome (Err (InvalidText 0)) ≡ map_result length (latin9_bytes t)
             measure_late q = sym (left_over ∙ rw (text_not (scalars_of (parts_from t (i + r))) (sym rest ∙ q)))
 
-    pub measure_last : length t ≤ i → length_reply_of (Length n) ≡ map_result length (latin9_bytes t)
+    pub measure_last : length t ≤ i → outcome (Ok n) ≡ map_result length (latin9_bytes t)
     unfolding scalars_of bytes_from
     measure_last h =
         let z : n + 0 ≡ n = omega arith in
@@ -227,7 +215,7 @@ pub record Writing (t d₀ d : List ℕ) (i o : ℕ) : Type 0 where
   pub bound : i ≤ length t
   pub characters : List ℕ
   pub bytes : List ℕ
-  pub rest : scalars_of (parts_from t i) ≡ some characters
+  pub rest : scalars_of (parts_from t i) ≡ Some characters
   pub mapped : bytes_from o characters ≡ ok bytes
   pub room : length (values_of (latin9_bytes t)) ≤ length d₀
   pub so_far : SoFar (values_of (latin9_bytes t)) bytes d₀ d o
@@ -254,12 +242,12 @@ record Next (t : List ℕ) (i o : ℕ) (cs bs : List ℕ) : Type 0 where
   others : List ℕ
   more : List ℕ
   step : step_at t i ≡ Scalar value next
-  has : byte_of value ≡ some byte
-  rest : scalars_of (parts_from t next) ≡ some others
+  has : byte_of value ≡ Some byte
+  rest : scalars_of (parts_from t next) ≡ Some others
   mapped : bytes_from (suc o) others ≡ ok more
   is : bs ≡ byte ∷ more
 
-next_by : (t : List ℕ) (i o : ℕ) {cs bs : List ℕ} → i < length t → scalars_of (parts_from t i) ≡ some cs → bytes_from o cs ≡ ok bs
+next_by : (t : List ℕ) (i o : ℕ) {cs bs : List ℕ} → i < length t → scalars_of (parts_from t i) ≡ Some cs → bytes_from o cs ≡ ok bs
     → (x : Step) → step_at t i ≡ x → Next t i o cs bs
 unfolding scalars_of bytes_from
 next_by t i o {cs} {bs} h r m (Scalar v next) e =
@@ -310,7 +298,7 @@ module _ {t d₀ d : List ℕ} {i o : ℕ} (w : Writing t d₀ d i o) where
         let e : Scalar (get_or t i 0) (i + 1) ≡ Scalar here.value here.next = ascii t i h l ∙ here.step in
         let v : get_or t i 0 ≡ here.value = cc in
         let n : i + 1 ≡ here.next = cc in
-        write_on n (some-injective (get_or t i 0) here.byte (sym (ascii_byte (get_or t i 0) l) ∙ ap byte_of v ∙ here.has))
+        write_on n (same_Some (get_or t i 0) here.byte (sym (ascii_byte (get_or t i 0) l) ∙ ap byte_of v ∙ here.has))
 
     module _ (l : 128 ≤ get_or t i 0) {r : ℕ} (e : r ≡ size_by (get_or t i 0)) where
       reads : Reads t i here.value here.next
@@ -333,44 +321,44 @@ module _ {t d₀ d : List ℕ} {i o : ℕ} (w : Writing t d₀ d i o) where
             inside = rw n at reads.advance.inside;
           }
 
-      same_byte : {m : Option ℕ} → m ≡ byte_of (value_at t i r) → m ≡ some here.byte
+      same_byte : {m : Option ℕ} → m ≡ byte_of (value_at t i r) → m ≡ Some here.byte
       same_byte is =
           let v : here.value ≡ value_at t i r = value_is t i here.value here.next reads r lead_length in
           is ∙ ap byte_of (sym v) ∙ here.has
 
-      module _ {x : ByteReply} (is : byte_reply_of x ≡ byte_of (value_at t i r)) where
-        pub write_byte : {b : ℕ} → x ≡ Byte b → Writing t d₀ (set d o b) (i + r) (o + 1)
+      module _ {x : Option ℕ} (is : x ≡ byte_of (value_at t i r)) where
+        pub write_byte : {b : ℕ} → x ≡ Some b → Writing t d₀ (set d o b) (i + r) (o + 1)
         write_byte {b} g =
             let s = starts t i here.value here.next reads in
             let n : here.next ≡ i + r = next_after t i here.value here.next reads r lead_length (omega (arith, lead_length)) in
-            write_on (sym n) (some-injective b here.byte (sym (ap byte_reply_of g) ∙ same_byte is))
+            write_on (sym n) (same_Some b here.byte (sym (g) ∙ same_byte is))
 
         -- a text that is exported has no such character
-        pub write_never : x ≡ Unmappable → d ≡ put d₀ 0 (values_of (latin9_bytes t))
-        write_never g = not_some (sym (ap byte_reply_of g) ∙ same_byte is)
+        pub write_never : x ≡ None → d ≡ put d₀ 0 (values_of (latin9_bytes t))
+        write_never g = not_some (sym (g) ∙ same_byte is)
 
   pub write_last : length t ≤ i → d ≡ put d₀ 0 (values_of (latin9_bytes t))
   unfolding scalars_of bytes_from
   write_last h =
-      let c : w.characters ≡ [] = some-injective w.characters [] (sym w.rest ∙ ap scalars_of (parts_end t i h)) in
+      let c : w.characters ≡ [] = same_Some w.characters [] (sym w.rest ∙ ap scalars_of (parts_end t i h)) in
       let b : w.bytes ≡ [] = same_value (sym w.mapped ∙ ap (bytes_from o) c) in
       ends (values_of (latin9_bytes t)) d₀ d o (rw b at w.so_far) ∙ sym (put_front d₀ (values_of (latin9_bytes t)))
 
 -- ---- the outcomes of `export_latin9`, by the length that was measured
 
-module _ (t out : List ℕ) {x : LengthReply} (e : length_reply_of x ≡ map_result length (latin9_bytes t)) where
-  pub export_refused : {f : MatError} → x ≡ Error f → Writes (export_latin9 t) out (Error f) out
+module _ (t out : List ℕ) where
+  pub export_refused : {f : Failure} → error f ≡ map_result length (latin9_bytes t) → export_latin9 t (length out) ≡ error f
   unfolding export_latin9
-  export_refused {f} g = writes (export_latin9 t) out (error (failure_of f)) (rw (told_error length (latin9_bytes t) e g)) refl refl
+  export_refused e = rw (told_error length (latin9_bytes t) e)
 
-  module _ {n : ℕ} (g : x ≡ Length n) where
+  module _ {n : ℕ} (e : ok n ≡ map_result length (latin9_bytes t)) where
     accepted : (latin9_bytes t ≡ ok (values_of (latin9_bytes t))) × (length (values_of (latin9_bytes t)) ≡ n)
     accepted =
-        let p = told_length length (latin9_bytes t) e g in
+        let p = told_value length (latin9_bytes t) e in
         let v : values_of (latin9_bytes t) ≡ p.0 = ap values_of p.1.0 in
         (p.1.0 ∙ ap ok (sym v), ap length v ∙ p.1.1)
 
-    pub export_short : n < 2 ^ 64 → length out < n → Writes (export_latin9 t) out (Error (OutputTooShort n)) out
+    pub export_short : n < 2 ^ 64 → length out < n → Writes (export_latin9 t) out (Err (OutputTooShort n)) out
     unfolding export_latin9
     export_short f h =
         let a = accepted in
@@ -379,7 +367,7 @@ module _ (t out : List ℕ) {x : LengthReply} (e : length_reply_of x ≡ map_res
         (rw a.0 (simp (lt-leb (length (values_of (latin9_bytes t))) (length out) (omega (arith, a.1)), sym p))) refl refl
 
     module _ (h : n ≤ length out) where
-      pub export_written : {out' : List ℕ} → out' ≡ put out 0 (values_of (latin9_bytes t)) → Writes (export_latin9 t) out (Length n) out'
+      pub export_written : {out' : List ℕ} → out' ≡ put out 0 (values_of (latin9_bytes t)) → Writes (export_latin9 t) out (Ok n) out'
       unfolding export_latin9
       export_written w =
           let a = accepted in
@@ -388,7 +376,7 @@ module _ (t out : List ℕ) {x : LengthReply} (e : length_reply_of x ≡ map_res
           (w ∙ put_front out (values_of (latin9_bytes t)))
 
       -- the text itself is written where its bytes are as many
-      pub export_own : n ≡ length t → {o : ℕ} {out' : List ℕ} → Places out 0 t o out' → Writes (export_latin9 t) out (Length n) out'
+      pub export_own : n ≡ length t → {o : ℕ} {out' : List ℕ} → Places out 0 t o out' → Writes (export_latin9 t) out (Ok n) out'
       export_own z w =
           let a = accepted in
           let s = exported_text t a.0 in

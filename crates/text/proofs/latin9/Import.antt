@@ -7,21 +7,21 @@ use Prim.Native.Nat.{ℕ, ◌+◌, ◌-◌, ◌*◌, ◌^◌, ◌≤◌, ◌<◌
 use native.Mathlib.Numerals.{add-one}
 use native.Mathlib.Omega.{arith}
 use borrow.Author.Tests.{lt-leb, le-leb, leb-true}
+use Rattle.std.specs.Prelude.{Ok, Err}
 use lib.Dec.{leb, ltb, eqb}
 use lib.ListN.{length, get_or, set, drop, length-append, drop_of_length-le}
 use lib.Seq.{drop-cons}
 use Rattle.text.specs.Buffer.{put, Places}
 use Rattle.text.specs.Latin9.{exceptions, point_in, code_point, latin9_text, import_latin9}
-use Rattle.text.specs.Replies.{length_reply_of, Writes}
-use Rattle.text.specs.Result.{ok, map_result, check_output}
+use Rattle.text.specs.Replies.{outcome, Writes}
+use Rattle.text.specs.Result.{ok, error, map_result, check_output}
 use Rattle.text.specs.Unicode.{Below, utf8}
+use Rattle.text.specs.declared.error.Failure.{Failure}
 use Rattle.text.specs.declared.error.MatError.TheVariants.{OutputTooShort}
-use Rattle.text.specs.declared.reply.LengthReply.{LengthReply}
-use Rattle.text.specs.declared.reply.LengthReply.TheVariants.{Length, Error}
 use Rattle.text.proofs.BufferLaws.{SoFar, Splits, begins, fits_next, goes_on, ends, put_front, places_front}
 use Rattle.text.proofs.ByteLaws.{stores}
 use Rattle.text.proofs.Latin9Laws.{ascii_point, text_length_lem, own_text}
-use Rattle.text.proofs.ReplyLaws.{writes, told_length}
+use Rattle.text.proofs.ReplyLaws.{writes, told_value, told_error}
 use Rattle.text.proofs.ResultLaws.{same_value, seq_passed, check_is}
 use Rattle.text.proofs.ScalarLaws.{utf8_1, utf8s_nil, utf8s_cons}
 use Rattle.text.proofs.TestLaws.{either, agree}
@@ -89,23 +89,23 @@ module _ (bs : List ℕ) where
 -- ---- the returns of `import_length`
 
 module _ (bs : List ℕ) (more room : ℕ) (need : length bs + more ≡ length (latin9_text bs)) where
-  pub measured_past : length bs < 2 ^ 64 → 18446744073709551615 - length bs < more → room < 2 ^ 64
-      → length_reply_of (Error (OutputTooShort 18446744073709551615)) ≡ map_result length (import_latin9 bs room)
+  pub measured_past : (length bs + more < 2 ^ 64 → ⊥) → room < 2 ^ 64
+      → outcome {A = ℕ} (Err (OutputTooShort 18446744073709551615)) ≡ map_result length (import_latin9 bs room)
   unfolding import_latin9
-  measured_past f h r =
+  measured_past h r =
       let p : 18446744073709551615 ≡ min (length (latin9_text bs)) (2 ^ 64 - 1) = omega (arith, need) in
       simp (lt-leb (length (latin9_text bs)) room (omega (arith, need)), sym p)
 
-  pub measured_short : length bs < 2 ^ 64 → more ≤ 18446744073709551615 - length bs → room < length bs + more
-      → length_reply_of (Error (OutputTooShort (length bs + more))) ≡ map_result length (import_latin9 bs room)
+  pub measured_short : {n : ℕ} → (length bs + more < 2 ^ 64) × (n ≡ length bs + more) → room < n
+      → outcome {A = ℕ} (Err (OutputTooShort n)) ≡ map_result length (import_latin9 bs room)
   unfolding import_latin9
-  measured_short l f h =
-      let p : length bs + more ≡ min (length (latin9_text bs)) (2 ^ 64 - 1) = omega (arith, need) in
+  measured_short {n} l h =
+      let p : n ≡ min (length (latin9_text bs)) (2 ^ 64 - 1) = omega (arith, need) in
       simp (lt-leb (length (latin9_text bs)) room (omega (arith, need)), sym p)
 
-  pub measured_fits : length bs + more ≤ room → length_reply_of (Length (length bs + more)) ≡ map_result length (import_latin9 bs room)
+  pub measured_fits : {n : ℕ} → n ≡ length bs + more → n ≤ room → outcome (Ok n) ≡ map_result length (import_latin9 bs room)
   unfolding import_latin9
-  measured_fits h = simp (le-leb (length (latin9_text bs)) room (omega (arith, need)), need)
+  measured_fits l h = simp (le-leb (length (latin9_text bs)) room (omega (arith, need, l)), l, need)
 
 -- ---- writing
 
@@ -157,19 +157,22 @@ module _ (bs : List ℕ) where
 
 -- ---- the outcomes of `import_latin9`, by the length that was measured
 
-module _ (bs text : List ℕ) {x : LengthReply} (e : length_reply_of x ≡ map_result length (import_latin9 bs (length text))) where
-  module _ {n : ℕ} (g : x ≡ Length n) where
+module _ (bs text : List ℕ) where
+  pub import_refused : {f : Failure} → error f ≡ map_result length (import_latin9 bs (length text)) → import_latin9 bs (length text) ≡ error f
+  import_refused e = told_error length (import_latin9 bs (length text)) e
+
+  module _ {n : ℕ} (e : ok n ≡ map_result length (import_latin9 bs (length text))) where
     accepted : (length (latin9_text bs) ≤ length text) × (length (latin9_text bs) ≡ n)
     unfolding import_latin9
     accepted =
-        let p = told_length length (import_latin9 bs (length text)) e g in
+        let p = told_value length (import_latin9 bs (length text)) e in
         let q = seq_passed (check_output (length (latin9_text bs)) (length text)) (ok (latin9_text bs)) p.1.0 in
         (leb-true _ _ (check_is 34 (leb (length (latin9_text bs)) (length text)) _ q.1.0), ap length (same_value q.1.1) ∙ p.1.1)
 
     pub import_room : length (latin9_text bs) ≤ length text
     import_room = accepted.0
 
-    pub import_written : {text' : List ℕ} → text' ≡ put text 0 (latin9_text bs) → Writes (import_latin9 bs) text (Length n) text'
+    pub import_written : {text' : List ℕ} → text' ≡ put text 0 (latin9_text bs) → Writes (import_latin9 bs) text (Ok n) text'
     unfolding import_latin9
     import_written w =
         writes (import_latin9 bs) text (ok (latin9_text bs)) (simp (le-leb (length (latin9_text bs)) (length text) accepted.0)) (ap ok (sym accepted.1))
@@ -180,5 +183,5 @@ module _ (bs text : List ℕ) {x : LengthReply} (e : length_reply_of x ≡ map_r
       is_own : latin9_text bs ≡ bs
       is_own = own_text bs (accepted.1 ∙ z)
 
-      pub import_own : {o : ℕ} {text' : List ℕ} → Places text 0 bs o text' → Writes (import_latin9 bs) text (Length n) text'
+      pub import_own : {o : ℕ} {text' : List ℕ} → Places text 0 bs o text' → Writes (import_latin9 bs) text (Ok n) text'
       import_own w = import_written (places_front text bs (omega (arith, accepted.0, accepted.1)) w ∙ ap (put text 0) (sym is_own))

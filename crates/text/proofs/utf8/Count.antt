@@ -3,17 +3,17 @@
 use mathlib.Core.Path.{◌≡◌, refl, ◌∙◌, sym, ap, ap₂}
 use mathlib.Core.Bool.{true}
 use mathlib.Core.List.{List, ◌∷◌, flat_map}
-use mathlib.Core.Option.{Option, some, none, map}
+use Rattle.std.specs.Prelude.{Option, Some, None, Ok, Err, Result as Reply}
+use Rattle.std.specs.Option.{option_map}
+use Rattle.std.proofs.lemmas.Option.{same_Some}
 use Prim.Native.Nat.{ℕ, ◌+◌, ◌-◌, ◌/◌, ◌≤◌, ◌<◌, max}
 use native.Mathlib.Omega.{arith}
 use borrow.Author.Tests.{lt-ltb, ltb-true, eqb-true}
 use lib.Dec.{ltb, eqb}
 use lib.ListN.{length, get_or, length-append}
 use Rattle.text.specs.declared.utf8.Step.TheVariants.{Scalar, IllFormed}
-use Rattle.text.specs.declared.utf8.UnitCount.{UnitCount}
-use Rattle.text.specs.declared.utf8.UnitCount.TheVariants as count
-use Rattle.text.specs.declared.utf8.Validity.TheVariants as validity
-use Rattle.text.specs.Replies.{count_place, validity_place, CountsUnits}
+use Rattle.text.specs.declared.utf8.Utf8Error.{Utf8Error}
+use Rattle.text.specs.Replies.{error_place, CountsUnits}
 use Rattle.text.specs.Stages.Utf8.{whole_length}
 use Rattle.text.specs.Unicode.{utf16, utf16s}
 use Rattle.text.specs.Utf8.{sequence_length, matched, value_at, whole_at, next_at, step_at, parts_from, scalars_of, scalars8, first_ill_formed, units_of}
@@ -21,43 +21,46 @@ use Rattle.text.proofs.LeadLaws.{ascii}
 use Rattle.text.proofs.PartLaws.{step_reads, parts_end, parts_scalar, parts_ill_formed}
 use Rattle.text.proofs.ScalarLaws.{lengths}
 use Rattle.text.proofs.TestLaws.{and_is, either}
-use Rattle.text.proofs.Utf8Laws.{took_size}
+use Rattle.text.proofs.Utf8Laws.{took_size, not_some}
 
 -- n units are counted before i, and all before i is well-formed
 pub record Counting (t : List ℕ) (n i : ℕ) : Type 0 where
   pub bound : i ≤ length t
   pub most : n ≤ i
-  pub units : map length (units_of t) ≡ map (λ vs. n + length (utf16s vs)) (scalars_of (parts_from t i))
+  pub units : option_map length (units_of t) ≡ option_map (λ vs. n + length (utf16s vs)) (scalars_of (parts_from t i))
   pub place : first_ill_formed (parts_from t 0) ≡ first_ill_formed (parts_from t i)
 
-from_none : (m : Option (List ℕ)) → map length (map utf16s m) ≡ map (λ vs. 0 + length (utf16s vs)) m
-from_none (some vs) = ap some (omega arith)
-from_none none = refl
+from_none : (m : Option (List ℕ)) → option_map length (option_map utf16s m) ≡ option_map (λ vs. 0 + length (utf16s vs)) m
+from_none (Some vs) = ap Some (omega arith)
+from_none None = refl
 
-one_more : (n v : ℕ) (m : Option (List ℕ)) → map (λ vs. n + length (utf16s vs)) (map (λ vs. v ∷ vs) m) ≡ map (λ vs. (n + length (utf16 v)) + length (utf16s vs)) m
+one_more : (n v : ℕ) (m : Option (List ℕ)) → option_map (λ vs. n + length (utf16s vs)) (option_map (λ vs. v ∷ vs) m) ≡ option_map (λ vs. (n + length (utf16 v)) + length (utf16s vs)) m
 unfolding flat_map
-one_more n v (some vs) = ap some (omega (arith, length-append (utf16 v) (utf16s vs)))
-one_more n v none = refl
+one_more n v (Some vs) = ap Some (omega (arith, length-append (utf16 v) (utf16s vs)))
+one_more n v None = refl
 
-pub broken_here : (t : List ℕ) (i : ℕ) → i < length t → whole_length t i ≡ 0 → step_at t i ≡ IllFormed (next_at t i)
-unfolding step_at whole_length whole_at
-broken_here t i h z =
-    let n : ℕ = sequence_length (get_or t i 0) in
-    either (whole_at t i)
-    (λ w. let p = and_is (ltb 0 n) (eqb (matched t i) n) w in
-    absurd (omega (arith, ltb-true 0 n p.0, eqb-true (matched t i) n p.1, rw w at z))) (λ w. simp (lt-ltb i (length t) h, w))
+pub broken_here : (t : List ℕ) (i : ℕ) → i < length t → None ≡ whole_length t i → step_at t i ≡ IllFormed (next_at t i)
+unfolding step_at whole_length
+broken_here t i h z = either (whole_at t i) (λ w. not_some (rw w at z)) (λ w. simp (lt-ltb i (length t) h, w))
 
 -- a whole sequence stands at i
-module _ (t : List ℕ) (i : ℕ) {r : ℕ} (h : i < length t) (e : r ≡ whole_length t i) (z : r ≡ 0 → ⊥) where
+module _ (t : List ℕ) (i : ℕ) {r : ℕ} (h : i < length t) (e : Some r ≡ whole_length t i) where
   pub whole_is : (whole_at t i ≡ true) × (matched t i ≡ r)
   unfolding whole_length
-  whole_is = either (whole_at t i) (λ w. (w, sym (rw w at e))) (λ w. absurd (z (rw w at e)))
+  whole_is = either (whole_at t i) (λ w. (w, same_Some _ _ (sym (rw w at e)))) (λ w. not_some (sym (rw w at e)))
+
+  pub whole_least : 1 ≤ r
+  unfolding whole_at
+  whole_least =
+      let w = whole_is in
+      let p = and_is (ltb 0 (sequence_length (get_or t i 0))) (eqb (matched t i) (sequence_length (get_or t i 0))) w.0 in
+      omega (arith, w.1, ltb-true 0 (sequence_length (get_or t i 0)) p.0, eqb-true (matched t i) (sequence_length (get_or t i 0)) p.1)
 
   pub scalar_here : step_at t i ≡ Scalar (value_at t i r) (i + r)
   unfolding step_at next_at
   scalar_here =
       let w = whole_is in
-      let n : i + max 1 (matched t i) ≡ i + r = omega (arith, w.1) in
+      let n : i + max 1 (matched t i) ≡ i + r = omega (arith, w.1, whole_least) in
       simp (lt-ltb i (length t) h, w.0) (ap₂ (λ (m k : ℕ). Scalar (value_at t i m) k) w.1 n)
 
 module _ (t : List ℕ) where
@@ -83,26 +86,25 @@ module _ (t : List ℕ) where
     pub count_ascii : i < length t → get_or t i 0 < 128 → Counting t (n + 1) (i + 1)
     count_ascii h b = count_scalar 1 (sym (ascii t i h b)) (omega arith)
 
-    module _ {r : ℕ} (h : i < length t) (e : r ≡ whole_length t i) where
-      pub count_whole : (r ≡ 0 → ⊥) → {u : ℕ} → u ≡ 1 + r / 4 → Counting t (n + u) (i + r)
-      count_whole z {u} k = count_scalar u (scalar_here t i h e z) (let q : i + r - i ≡ r = omega arith in rw q k)
+    pub count_whole : {r : ℕ} → i < length t → Some r ≡ whole_length t i → {u : ℕ} → u ≡ 1 + r / 4 → Counting t (n + u) (i + r)
+    count_whole {r} h e {u} k = count_scalar u (scalar_here t i h e) (let q : i + r - i ≡ r = omega arith in rw q k)
 
-      pub count_stop : r ≡ 0 → CountsUnits t (count.IllFormed i)
-      unfolding scalars_of first_ill_formed
-      count_stop z =
-          let p = parts_ill_formed t i (broken_here t i h (sym e ∙ z)) in
-          record { units = sym (rw p at c.units); place = sym (rw p at c.place) }
+    pub count_stop : i < length t → None ≡ whole_length t i → CountsUnits t (Err (record { valid_up_to = i }))
+    unfolding scalars_of first_ill_formed
+    count_stop h e =
+        let p = parts_ill_formed t i (broken_here t i h e) in
+        record { units = sym (rw p at c.units); place = sym (rw p at c.place) }
 
-    pub count_last : length t ≤ i → CountsUnits t (count.Units n)
+    pub count_last : length t ≤ i → CountsUnits t (Ok n)
     unfolding scalars_of first_ill_formed flat_map
     count_last h =
         let p = parts_end t i h in
         let z : n + 0 ≡ n = omega arith in
-        record { units = sym (rw p at c.units ∙ ap some z); place = sym (rw p at c.place) }
+        record { units = sym (rw p at c.units ∙ ap Some z); place = sym (rw p at c.place) }
 
 -- the place alone
-pub valid_units : (t : List ℕ) {x : UnitCount} {n : ℕ} → CountsUnits t x → x ≡ count.Units n → validity_place validity.WellFormed ≡ first_ill_formed (parts_from t 0)
-valid_units t c e = sym (ap count_place e) ∙ c.place
+pub valid_units : (t : List ℕ) {x : Reply ℕ Utf8Error} {n : ℕ} → CountsUnits t x → x ≡ Ok n → None ≡ first_ill_formed (parts_from t 0)
+valid_units t c e = sym (ap error_place e) ∙ c.place
 
-pub valid_place : (t : List ℕ) {x : UnitCount} {i : ℕ} → CountsUnits t x → x ≡ count.IllFormed i → validity_place (validity.IllFormed i) ≡ first_ill_formed (parts_from t 0)
-valid_place t c e = sym (ap count_place e) ∙ c.place
+pub valid_place : (t : List ℕ) {x : Reply ℕ Utf8Error} {f : Utf8Error} → CountsUnits t x → x ≡ Err f → Some f.valid_up_to ≡ first_ill_formed (parts_from t 0)
+valid_place t c e = sym (ap error_place e) ∙ c.place

@@ -3,7 +3,8 @@
 use mathlib.Core.Path.{◌≡◌, refl, ◌∙◌, sym, ap, ap₂}
 use mathlib.Core.Bool.{Bool, true, false, cond, not}
 use mathlib.Core.List.{List, [], ◌∷◌, ◌++◌, flat_map}
-use mathlib.Core.Option.{some, none, map}
+use Rattle.std.specs.Prelude.{Option, Some, None, Ok, Err, Result as Reply}
+use Rattle.std.specs.Option.{option_map}
 use Prim.Native.Nat.{ℕ, ◌+◌, ◌-◌, ◌*◌, ◌/◌, ◌^◌, ◌≤◌, ◌<◌, min}
 use native.Mathlib.Omega.{arith}
 use borrow.Author.Tests.{lt-ltb, le-ltb, lt-leb, le-leb, leb-true, leb-false, ltb-true, ltb-false, not-true, not-false}
@@ -11,15 +12,12 @@ use lib.Dec.{leb, ltb}
 use lib.ListN.{length, get_or, take, length-append}
 use Rattle.text.specs.declared.utf8.Step.{Step}
 use Rattle.text.specs.declared.utf8.Step.TheVariants.{Scalar, IllFormed, End}
-use Rattle.text.specs.declared.utf8.LossyLength.{LossyLength}
-use Rattle.text.specs.declared.utf8.LossyLength.TheVariants as measure
-use Rattle.text.specs.declared.utf8.UnitCount.{UnitCount}
-use Rattle.text.specs.declared.utf8.UnitCount.TheVariants as count
-use Rattle.text.specs.declared.utf8.LossyReply.TheVariants as lossy_reply
-use Rattle.text.specs.declared.utf8.Validity.{Validity}
-use Rattle.text.specs.declared.utf8.Validity.TheVariants as validity
+use Rattle.text.specs.declared.utf8.LossySize.{LossySize}
+use Rattle.text.specs.declared.utf8.Utf8Error.{Utf8Error}
+use Rattle.text.specs.declared.error.MatError.TheVariants.{OutputTooShort}
 use Rattle.text.specs.Buffer.{put, Puts, Places}
-use Rattle.text.specs.Replies.{validity_place, CountsUnits, lossy_length, WritesLossy}
+use Rattle.text.specs.Replies.{error_place, CountsUnits, lossy_size, lossy_length, WritesLossy}
+use Rattle.text.specs.Result.{ok, error}
 use Rattle.text.specs.Unicode.{is_scalar, utf8, utf8s}
 use Rattle.text.specs.Utf8.{Part, sequence, ill_formed, step_at, parts_from, scalars_of, first_ill_formed, repaired, replaced_in, scalars8, lossy}
 use Rattle.text.proofs.BufferLaws.{SoFar, Splits, put_front, fits_next, goes_on, placed_not, placed_whole, places_front, fits_from, begins_from, ends_from}
@@ -69,17 +67,21 @@ replacement_size = refl
 
 -- ---- measuring
 
+-- a size of so many bytes and so many replaced parts
+abbrev pub size : ℕ → ℕ → LossySize
+size n k = record { bytes = n; replaced = k }
+
 -- of the bytes before i, these are in ill-formed parts, and there are these replaced parts
 pub record Measuring (s : List ℕ) (broken replaced i : ℕ) : Type 0 where
   pub bound : i ≤ length s
   pub few : replaced ≤ i
   pub kept : broken ≤ i
-  pub size : (i - broken) + 3 * replaced + length (utf8s (repaired (parts_from s i))) ≡ length (lossy s)
+  pub sum : (i - broken) + 3 * replaced + length (utf8s (repaired (parts_from s i))) ≡ length (lossy s)
   pub count : replaced + replaced_in (parts_from s i) ≡ replaced_in (parts_from s 0)
 
 module _ (s : List ℕ) where
   pub measure_start : Measuring s 0 0 0
-  measure_start = record { bound = omega arith; few = omega arith; kept = omega arith; size = omega arith; count = omega arith }
+  measure_start = record { bound = omega arith; few = omega arith; kept = omega arith; sum = omega arith; count = omega arith }
 
   module _ {broken replaced i : ℕ} (m : Measuring s broken replaced i) where
     split_size : {next w k : ℕ} → Writes s i next w k
@@ -94,7 +96,7 @@ module _ (s : List ℕ) where
           bound = a.inside;
           few = omega (arith, a);
           kept = omega (arith, a);
-          size = omega (arith, split_size x, took_size (step_reads s i e));
+          sum = omega (arith, split_size x, took_size (step_reads s i e));
           count = omega (arith, x.count);
         }
 
@@ -113,7 +115,7 @@ module _ (s : List ℕ) where
             bound = a.inside;
             few = omega (arith, a);
             kept = omega (arith, a);
-            size = omega (arith, split_size x, a, replacement_size);
+            sum = omega (arith, split_size x, a, replacement_size);
             count = omega (arith, x.count);
           }
 
@@ -123,31 +125,31 @@ module _ (s : List ℕ) where
 
       bytes_are : (i - broken) + 3 * replaced ≡ length (lossy s)
       unfolding repaired flat_map
-      bytes_are = omega (arith, rw no_parts at m.size)
+      bytes_are = omega (arith, rw no_parts at m.sum)
 
-      pub measure_over : (18446744073709551615 - (i - broken)) / 3 < replaced → measure.TooLong ≡ lossy_length s
+      pub measure_over : (18446744073709551615 - (i - broken)) / 3 < replaced → None ≡ lossy_length s
       unfolding lossy_length
       measure_over l = simp (le-ltb (length (lossy s)) (2 ^ 64) (omega (arith, bytes_are, m.bound)))
 
-      pub measure_last : length s < 2 ^ 64 → replaced ≤ (18446744073709551615 - (i - broken)) / 3 → measure.Length ((i - broken) + 3 * replaced) replaced ≡ lossy_length s
+      pub measure_last : length s < 2 ^ 64 → replaced ≤ (18446744073709551615 - (i - broken)) / 3 → Some (size ((i - broken) + 3 * replaced) replaced) ≡ lossy_length s
       unfolding lossy_length replaced_in
       measure_last f l =
           let r : replaced ≡ replaced_in (parts_from s 0) = omega (arith, rw no_parts at m.count) in
-          simp (lt-ltb (length (lossy s)) (2 ^ 64) (omega (arith, bytes_are, m.bound))) (ap₂ (λ (b n : ℕ). measure.Length b n) bytes_are r)
+          simp (lt-ltb (length (lossy s)) (2 ^ 64) (omega (arith, bytes_are, m.bound))) (ap₂ (λ (b n : ℕ). Some (size b n)) bytes_are r)
 
     -- the same where a step finds nothing left
     module _ {x : Step} (e : x ≡ step_at s i) (g : x ≡ End) where
-      pub end_over : (18446744073709551615 - (i - broken)) / 3 < replaced → measure.TooLong ≡ lossy_length s
+      pub end_over : (18446744073709551615 - (i - broken)) / 3 < replaced → None ≡ lossy_length s
       end_over l = measure_over (step_end s i (sym e ∙ g)) l
 
-      pub end_last : length s < 2 ^ 64 → replaced ≤ (18446744073709551615 - (i - broken)) / 3 → measure.Length ((i - broken) + 3 * replaced) replaced ≡ lossy_length s
+      pub end_last : length s < 2 ^ 64 → replaced ≤ (18446744073709551615 - (i - broken)) / 3 → Some (size ((i - broken) + 3 * replaced) replaced) ≡ lossy_length s
       end_last f l = measure_last (step_end s i (sym e ∙ g)) f l
 
   -- all before the first ill-formed part is kept
-  pub measure_from : {at : ℕ} → first_ill_formed (parts_from s 0) ≡ some at → Measuring s 0 0 at
+  pub measure_from : {at : ℕ} → first_ill_formed (parts_from s 0) ≡ Some at → Measuring s 0 0 at
   unfolding first_ill_formed
   measure_from {at} e =
-      parts_rule s (λ (i : ℕ) (ps : List Part). first_ill_formed ps ≡ some at → Measuring s 0 0 i → Measuring s 0 0 at)
+      parts_rule s (λ (i : ℕ) (ps : List Part). first_ill_formed ps ≡ Some at → Measuring s 0 0 i → Measuring s 0 0 at)
       (λ i h g m. let z : ◌≡◌ {A = ℕ} 0 1 = cc in absurd (omega arith)) (λ i v n t rest g m. rest g (measure_scalar m t))
       (λ i n t rest g m. let z : i ≡ at = cc in rw z at m) 0 e measure_start
 
@@ -204,28 +206,28 @@ pub replaced_le : (s : List ℕ) → replaced_in (parts_from s 0) ≤ length s
 replaced_le s = omega (arith, replaced_from s 0)
 
 -- a text in which nothing is replaced is its own repaired text
-whole_parts : (ps : List Part) → replaced_in ps ≡ 0 → scalars_of ps ≡ some (repaired ps)
+whole_parts : (ps : List Part) → replaced_in ps ≡ 0 → scalars_of ps ≡ Some (repaired ps)
 unfolding replaced_in scalars_of repaired
 whole_parts [] e = refl
-whole_parts (sequence v ∷ ps) e = ap (map (λ vs. v ∷ vs)) (whole_parts ps e)
+whole_parts (sequence v ∷ ps) e = ap (option_map (λ vs. v ∷ vs)) (whole_parts ps e)
 whole_parts (ill_formed i ∷ ps) e = absurd (omega arith)
 
 own_repair : (s : List ℕ) → replaced_in (parts_from s 0) ≡ 0 → s ≡ lossy s
 own_repair s e = (spelled s (whole_parts (parts_from s 0) e)).bytes
 
-no_replaced : (ps : List Part) → none ≡ first_ill_formed ps → replaced_in ps ≡ 0
+no_replaced : (ps : List Part) → None ≡ first_ill_formed ps → replaced_in ps ≡ 0
 unfolding first_ill_formed replaced_in
 no_replaced [] e = refl
 no_replaced (sequence v ∷ ps) e = no_replaced ps e
 no_replaced (ill_formed i ∷ ps) e = let z : ◌≡◌ {A = ℕ} 0 1 = cc in absurd (omega arith)
 
-broken_parts : (ps : List Part) → (replaced_in ps ≡ 0 → ⊥) → scalars_of ps ≡ none
+broken_parts : (ps : List Part) → (replaced_in ps ≡ 0 → ⊥) → scalars_of ps ≡ None
 unfolding replaced_in scalars_of
 broken_parts [] n = absurd (n refl)
-broken_parts (sequence v ∷ ps) n = ap (map (λ vs. v ∷ vs)) (broken_parts ps n)
+broken_parts (sequence v ∷ ps) n = ap (option_map (λ vs. v ∷ vs)) (broken_parts ps n)
 broken_parts (ill_formed i ∷ ps) n = refl
 
-some_replaced : (ps : List Part) {i : ℕ} → some i ≡ first_ill_formed ps → replaced_in ps ≡ 0 → ⊥
+some_replaced : (ps : List Part) {i : ℕ} → Some i ≡ first_ill_formed ps → replaced_in ps ≡ 0 → ⊥
 unfolding first_ill_formed replaced_in
 some_replaced [] e z = not_some (sym e)
 some_replaced (sequence v ∷ ps) e z = some_replaced ps e z
@@ -233,26 +235,26 @@ some_replaced (ill_formed j ∷ ps) e z = omega arith
 
 -- a text is well-formed, and so has scalar values, exactly where nothing is replaced, and `validate` tells it
 module _ (s : List ℕ) where
-  pub none_replaced : replaced_in (parts_from s 0) ≡ 0 → scalars8 s ≡ some (repaired (parts_from s 0))
+  pub none_replaced : replaced_in (parts_from s 0) ≡ 0 → scalars8 s ≡ Some (repaired (parts_from s 0))
   none_replaced z = whole_parts (parts_from s 0) z
 
-  pub part_replaced : (replaced_in (parts_from s 0) ≡ 0 → ⊥) → scalars8 s ≡ none
+  pub part_replaced : (replaced_in (parts_from s 0) ≡ 0 → ⊥) → scalars8 s ≡ None
   part_replaced n = broken_parts (parts_from s 0) n
 
-  pub sound_replaced : {vs : List ℕ} → scalars8 s ≡ some vs → replaced_in (parts_from s 0) ≡ 0
+  pub sound_replaced : {vs : List ℕ} → scalars8 s ≡ Some vs → replaced_in (parts_from s 0) ≡ 0
   sound_replaced e = equal_or (replaced_in (parts_from s 0)) 0 (λ z. z) (λ n. not_some (sym (part_replaced n) ∙ e))
 
-  module _ {x : Validity} (e : validity_place x ≡ first_ill_formed (parts_from s 0)) where
-    pub valid_scalars : x ≡ validity.WellFormed → scalars8 s ≡ some (repaired (parts_from s 0))
-    valid_scalars g = none_replaced (no_replaced (parts_from s 0) (sym (ap validity_place g) ∙ e))
+  module _ {A : Type 0} {x : Reply A Utf8Error} (e : error_place x ≡ first_ill_formed (parts_from s 0)) where
+    pub valid_scalars : {a : A} → x ≡ Ok a → scalars8 s ≡ Some (repaired (parts_from s 0))
+    valid_scalars g = none_replaced (no_replaced (parts_from s 0) (sym (ap error_place g) ∙ e))
 
-    pub invalid_scalars : {i : ℕ} → x ≡ validity.IllFormed i → scalars8 s ≡ none
-    invalid_scalars g = part_replaced (some_replaced (parts_from s 0) (sym (ap validity_place g) ∙ e))
+    pub invalid_scalars : {f : Utf8Error} → x ≡ Err f → scalars8 s ≡ None
+    invalid_scalars g = part_replaced (some_replaced (parts_from s 0) (sym (ap error_place g) ∙ e))
 
 -- ---- measuring by the count of code units, which finds the first ill-formed part
 
-module _ (s : List ℕ) {x : UnitCount} (c : CountsUnits s x) where
-  pub length_kept : {n : ℕ} → x ≡ count.Units n → length s < 2 ^ 64 → measure.Length (length s) 0 ≡ lossy_length s
+module _ (s : List ℕ) {x : Reply ℕ Utf8Error} (c : CountsUnits s x) where
+  pub length_kept : {n : ℕ} → x ≡ Ok n → length s < 2 ^ 64 → Some (size (length s) 0) ≡ lossy_length s
   unfolding lossy_length
   length_kept e f =
       let z = no_replaced (parts_from s 0) (valid_units s c e) in
@@ -261,33 +263,31 @@ module _ (s : List ℕ) {x : UnitCount} (c : CountsUnits s x) where
 
 -- ---- what a measured length says
 
-module _ (s : List ℕ) {x : LossyLength} (is : x ≡ lossy_length s) where
-  pub length_is : {n r : ℕ} → x ≡ measure.Length n r → (n ≡ length (lossy s)) × (r ≡ replaced_in (parts_from s 0)) × (n < 2 ^ 64)
+module _ (s : List ℕ) {x : Option LossySize} (is : x ≡ lossy_length s) where
+  pub length_is : {z : LossySize} → x ≡ Some z → (z ≡ lossy_size s) × (z.bytes < 2 ^ 64)
   unfolding lossy_length
-  length_is {n} {r} e = by (ltb (length (lossy s)) (2 ^ 64)) refl (sym is ∙ e)
+  length_is {z} e = by (ltb (length (lossy s)) (2 ^ 64)) refl (sym is ∙ e)
     where
-      by : (t : Bool) → ltb (length (lossy s)) (2 ^ 64) ≡ t → cond t (measure.Length (length (lossy s)) (replaced_in (parts_from s 0))) measure.TooLong ≡ measure.Length n r
-          → (n ≡ length (lossy s)) × (r ≡ replaced_in (parts_from s 0)) × (n < 2 ^ 64)
+      by : (t : Bool) → ltb (length (lossy s)) (2 ^ 64) ≡ t → cond t (Some (lossy_size s)) None ≡ Some z → (z ≡ lossy_size s) × (z.bytes < 2 ^ 64)
       by true f k =
-          let a : n ≡ length (lossy s) = cc in
-          (a, cc, omega (arith, a, ltb-true (length (lossy s)) (2 ^ 64) f))
-      by false f k = let z : ◌≡◌ {A = ℕ} 0 1 = cc in absurd (omega arith)
+          let a : z ≡ lossy_size s = cc in
+          (a, rw a (ltb-true (length (lossy s)) (2 ^ 64) f))
+      by false f k = not_some k
 
-  pub too_long_is : x ≡ measure.TooLong → 2 ^ 64 ≤ length (lossy s)
+  pub too_long_is : x ≡ None → 2 ^ 64 ≤ length (lossy s)
   unfolding lossy_length
   too_long_is e = by (ltb (length (lossy s)) (2 ^ 64)) refl (sym is ∙ e)
     where
-      by : (t : Bool) → ltb (length (lossy s)) (2 ^ 64) ≡ t → cond t (measure.Length (length (lossy s)) (replaced_in (parts_from s 0))) measure.TooLong ≡ measure.TooLong
-          → 2 ^ 64 ≤ length (lossy s)
-      by true f k = let z : ◌≡◌ {A = ℕ} 0 1 = cc in absurd (omega arith)
+      by : (t : Bool) → ltb (length (lossy s)) (2 ^ 64) ≡ t → cond t (Some (lossy_size s)) None ≡ None → 2 ^ 64 ≤ length (lossy s)
+      by true f k = not_some (sym k)
       by false f k = ltb-false (length (lossy s)) (2 ^ 64) f
 
   -- ---- the returns of `lossy_fits`
 
-  pub fits_measured : {n r : ℕ} → x ≡ measure.Length n r → (room : ℕ) → leb n room ≡ leb (length (lossy s)) room
-  fits_measured e room = ap (λ (k : ℕ). leb k room) (length_is e).0
+  pub fits_measured : {z : LossySize} → x ≡ Some z → (room : ℕ) → leb z.bytes room ≡ leb (length (lossy s)) room
+  fits_measured e room = ap (λ (k : LossySize). leb k.bytes room) (length_is e).0
 
-  pub fits_never : {room : ℕ} → x ≡ measure.TooLong → room < 2 ^ 64 → false ≡ leb (length (lossy s)) room
+  pub fits_never : {room : ℕ} → x ≡ None → room < 2 ^ 64 → false ≡ leb (length (lossy s)) room
   fits_never {room} e h = sym (lt-leb (length (lossy s)) room (omega (arith, too_long_is e)))
 
 pub fits_thrice : (s : List ℕ) (room : ℕ) → length s ≤ room / 3 → true ≡ leb (length (lossy s)) room
@@ -308,38 +308,41 @@ module _ (s d : List ℕ) (at : ℕ) {r : Bool} (h : at ≤ length d) (is : r �
 
 -- ---- the returns of `write_lossy`
 
-module _ (s out : List ℕ) {x : LossyLength} (is : x ≡ lossy_length s) where
-  pub lossy_short : {n r : ℕ} → x ≡ measure.Length n r → length out < n → WritesLossy s out (lossy_reply.TooShort n) out
-  lossy_short {n} e h =
+module _ (s out : List ℕ) {x : Option LossySize} (is : x ≡ lossy_length s) where
+  pub lossy_short : {z : LossySize} → x ≡ Some z → length out < z.bytes → WritesLossy s out (Err (OutputTooShort z.bytes)) out
+  lossy_short {z} e h =
       let l = length_is s is e in
-      let t : leb (length (lossy s)) (length out) ≡ false = lt-leb (length (lossy s)) (length out) (omega (arith, l)) in
-      let p : n ≡ min (length (lossy s)) (2 ^ 64 - 1) = omega (arith, l) in
-      record { reply = simp t (ap (λ (k : ℕ). lossy_reply.TooShort k) p); buffer = simp t }
+      let n : z.bytes ≡ length (lossy s) = ap (λ (k : LossySize). k.bytes) l.0 in
+      let t : leb (length (lossy s)) (length out) ≡ false = lt-leb (length (lossy s)) (length out) (omega arith) in
+      let p : z.bytes ≡ min (length (lossy s)) (2 ^ 64 - 1) = omega (arith, l.1) in
+      record { reply = simp t (ap (λ (k : ℕ). error (record { number = 34; place = k })) p); buffer = simp t }
 
-  module _ {n r : ℕ} (e : x ≡ measure.Length n r) (h : n ≤ length out) where
+  module _ {z : LossySize} (e : x ≡ Some z) (h : z.bytes ≤ length out) where
+    bytes_is : z.bytes ≡ length (lossy s)
+    bytes_is = ap (λ (k : LossySize). k.bytes) (length_is s is e).0
+
     pub lossy_room : 0 + length (lossy s) ≤ length out
-    lossy_room = omega (arith, length_is s is e)
+    lossy_room = omega (arith, bytes_is)
 
-    lossy_put : {out' : List ℕ} → out' ≡ put out 0 (lossy s) → WritesLossy s out (lossy_reply.Written n r) out'
+    lossy_put : {out' : List ℕ} → out' ≡ put out 0 (lossy s) → WritesLossy s out (Ok z) out'
     lossy_put w =
-        let l = length_is s is e in
         let t : leb (length (lossy s)) (length out) ≡ true = le-leb (length (lossy s)) (length out) (omega (arith, lossy_room)) in
-        record { reply = simp t (ap₂ (λ (b k : ℕ). lossy_reply.Written b k) l.0 l.1); buffer = simp t (w ∙ put_front out (lossy s)) }
+        record { reply = simp t (ap ok (length_is s is e).0); buffer = simp t (w ∙ put_front out (lossy s)) }
 
-    pub lossy_written : {o : ℕ} {out' : List ℕ} → Puts out 0 (lossy s) o out' → WritesLossy s out (lossy_reply.Written n r) out'
+    pub lossy_written : {o : ℕ} {out' : List ℕ} → Puts out 0 (lossy s) o out' → WritesLossy s out (Ok z) out'
     lossy_written w = lossy_put w.buffer
 
     -- the text itself is written where nothing is replaced
-    module _ (z : r ≡ 0) where
+    module _ (y : z.replaced ≡ 0) where
       is_own : s ≡ lossy s
-      is_own = own_repair s (sym (length_is s is e).1 ∙ z)
+      is_own = own_repair s (sym (ap (λ (k : LossySize). k.replaced) (length_is s is e).0) ∙ y)
 
-      pub lossy_own : {o : ℕ} {out' : List ℕ} → Places out 0 s o out' → WritesLossy s out (lossy_reply.Written n r) out'
+      pub lossy_own : {o : ℕ} {out' : List ℕ} → Places out 0 s o out' → WritesLossy s out (Ok z) out'
       lossy_own w = lossy_put (places_front out s (omega (arith, lossy_room, ap length is_own)) w ∙ ap (put out 0) is_own)
 
-  pub lossy_past : length out < 2 ^ 64 - 1 → x ≡ measure.TooLong → WritesLossy s out (lossy_reply.TooShort 18446744073709551615) out
+  pub lossy_past : length out < 2 ^ 64 - 1 → x ≡ None → WritesLossy s out (Err (OutputTooShort 18446744073709551615)) out
   lossy_past h e =
       let l = too_long_is s is e in
       let t : leb (length (lossy s)) (length out) ≡ false = lt-leb (length (lossy s)) (length out) (omega arith) in
       let p : 18446744073709551615 ≡ min (length (lossy s)) (2 ^ 64 - 1) = omega arith in
-      record { reply = simp t (ap (λ (k : ℕ). lossy_reply.TooShort k) p); buffer = simp t }
+      record { reply = simp t (ap (λ (k : ℕ). error (record { number = 34; place = k })) p); buffer = simp t }

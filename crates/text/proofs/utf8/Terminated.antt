@@ -3,18 +3,17 @@
 use mathlib.Core.Path.{◌≡◌, refl, ◌∙◌, sym, ap}
 use mathlib.Core.Bool.{Bool, true, false, cond, and-false}
 use mathlib.Core.List.{List, [], ◌∷◌}
-use mathlib.Core.Option.{Option, some, none, map}
+use Rattle.std.specs.Prelude.{Option, Some, None, Ok, Err}
+use Rattle.std.specs.Option.{option_map}
 use Prim.Native.Nat.{ℕ, zero, suc, ◌+◌, ◌≤◌, ◌<◌}
 use native.Mathlib.Omega.{arith}
 use borrow.Author.Tests.{eq-eqb, ne_eqb, eqb-true, eqb-false, lt-ltb, ltb-true, ltb-false, lt-leb, leb-false}
 use lib.Dec.{leb, ltb, eqb}
 use lib.ListN.{length, get_or}
-use Rattle.text.specs.Replies.{terminated_length, length_of}
+use Rattle.text.specs.Replies.{terminated_length}
 use Rattle.text.specs.Stages.Utf8.{whole_length}
 use Rattle.text.specs.Utf8.{sequence_length, second_range, has_in, matched, whole_at, scalars8, before_zero}
-use Rattle.text.specs.declared.utf8.TextLength.{TextLength}
-use Rattle.text.specs.declared.utf8.TextLength.TheVariants as text_length
-use Rattle.text.proofs.utf8.Count.{Counting, count_ascii, count_whole, count_stop, count_last, valid_units, valid_place}
+use Rattle.text.proofs.utf8.Count.{Counting, count_ascii, count_whole, count_stop, count_last}
 use Rattle.text.proofs.LeadLaws.{starts_byte, second_least}
 use Rattle.text.proofs.utf8.Lossy.{valid_scalars, invalid_scalars}
 use Rattle.text.proofs.TestLaws.{either}
@@ -127,42 +126,40 @@ module _ {s : List ℕ} {i : ℕ} (e : Ending s i) where
   ending_ascii n l =
       record { units = e.units + 1; counting = count_ascii (before_zero s) e.counting (inside n) (rw (before_byte s i (inside n)).0 l) }
 
-  module _ (n : get_or s i 0 ≡ 0 → ⊥) {r : ℕ} (is : r ≡ whole_length s i) where
-    here : r ≡ whole_length (before_zero s) i
-    here = is ∙ whole_same s i (inside n)
+  module _ (n : get_or s i 0 ≡ 0 → ⊥) where
+    pub ending_whole : {r : ℕ} → Some r ≡ whole_length s i → Ending s (i + r)
+    ending_whole is =
+        record { units = _; counting = count_whole (before_zero s) e.counting (inside n) (is ∙ whole_same s i (inside n)) refl }
 
-    pub ending_whole : (r ≡ 0 → ⊥) → Ending s (i + r)
-    ending_whole m = record { units = _; counting = count_whole (before_zero s) e.counting (inside n) here m refl }
+    pub ending_broken : None ≡ whole_length s i → None ≡ terminated_length s
+    ending_broken is =
+        let c = count_stop (before_zero s) e.counting (inside n) (is ∙ whole_same s i (inside n)) in
+        sym (ap (option_map (λ _. length (before_zero s))) (invalid_scalars (before_zero s) {A = ℕ} {x = Err (record { valid_up_to = i })} c.place refl))
 
-    pub ending_broken : r ≡ 0 → length_of text_length.IllFormed ≡ terminated_length s
-    ending_broken z =
-        let c = count_stop (before_zero s) e.counting (inside n) here z in
-        sym (ap (map (λ _. length (before_zero s))) (invalid_scalars (before_zero s) (valid_place (before_zero s) c refl) refl))
-
-  ended : length (before_zero s) ≤ i → length_of (text_length.Length i) ≡ terminated_length s
+  ended : length (before_zero s) ≤ i → Some i ≡ terminated_length s
   ended l =
       let c = count_last (before_zero s) e.counting l in
       let z : i ≡ length (before_zero s) = omega (arith, e.counting.bound) in
-      ap some z ∙ sym (ap (map (λ _. length (before_zero s))) (valid_scalars (before_zero s) (valid_units (before_zero s) c refl) refl))
+      ap Some z ∙ sym (ap (option_map (λ _. length (before_zero s))) (valid_scalars (before_zero s) {A = ℕ} {x = Ok i} c.place refl))
 
-  pub ending_zero : get_or s i 0 ≡ 0 → length_of (text_length.Length i) ≡ terminated_length s
+  pub ending_zero : get_or s i 0 ≡ 0 → Some i ≡ terminated_length s
   ending_zero z =
       ended
       (either (ltb i (length (before_zero s))) (λ t. absurd ((before_byte s i (ltb-true i (length (before_zero s)) t)).1 z))
       (λ t. ltb-false i (length (before_zero s)) t))
 
-  pub ending_last : length s ≤ i → length_of (text_length.Length i) ≡ terminated_length s
+  pub ending_last : length s ≤ i → Some i ≡ terminated_length s
   ending_last l = ended (omega (arith, before_le s))
 
 -- ---- what a reply says
 
-module _ (s : List ℕ) {x : TextLength} (e : length_of x ≡ terminated_length s) where
-  pub terminated_is : {n : ℕ} → x ≡ text_length.Length n → (vs : List ℕ) × ((scalars8 (before_zero s) ≡ some vs) × (n ≡ length (before_zero s)))
-  terminated_is g = map_is (λ _. length (before_zero s)) (scalars8 (before_zero s)) (sym e ∙ ap length_of g)
+module _ (s : List ℕ) {x : Option ℕ} (e : x ≡ terminated_length s) where
+  pub terminated_is : {n : ℕ} → x ≡ Some n → (vs : List ℕ) × ((scalars8 (before_zero s) ≡ Some vs) × (n ≡ length (before_zero s)))
+  terminated_is g = map_is (λ _. length (before_zero s)) (scalars8 (before_zero s)) (sym e ∙ g)
 
-  pub terminated_not : x ≡ text_length.IllFormed → scalars8 (before_zero s) ≡ none
-  terminated_not g = none_of (scalars8 (before_zero s)) (sym e ∙ ap length_of g)
+  pub terminated_not : x ≡ None → scalars8 (before_zero s) ≡ None
+  terminated_not g = none_of (scalars8 (before_zero s)) (sym e ∙ g)
     where
-      none_of : (m : Option (List ℕ)) → map (λ _. length (before_zero s)) m ≡ none → m ≡ none
-      none_of none q = refl
-      none_of (some vs) q = not_some (sym q)
+      none_of : (m : Option (List ℕ)) → option_map (λ _. length (before_zero s)) m ≡ None → m ≡ None
+      none_of None q = refl
+      none_of (Some vs) q = not_some (sym q)

@@ -1,23 +1,15 @@
 -- What the private stages of export and import promise each other.
 -- Assumes nothing.
 use Rattle.std.specs.Prelude.{ℕ, ◌<◌, ◌+◌, ◌≤◌, ◌≡◌, cond, List, ltb, length, get_or}
-use Rattle.std.proofs.Math.Option.{Option, some, none}
 use Rattle.text.specs.Latin9.{code_point, latin9_bytes}
 use Rattle.text.specs.Result.{ok, values_of}
 use Rattle.text.specs.Utf8.{value_at, step_at}
-use Rattle.text.specs.declared.latin9.ByteReply.{ByteReply}
-use Rattle.text.specs.declared.latin9.ByteReply.TheVariants.{Byte, Unmappable}
 use Rattle.text.specs.declared.utf8.Step.TheVariants.{Scalar}
 
 -- the table that is lent has the code point of each byte
 pub record IsTable (points : List ℕ) : Type 0 where
   pub size : length points ≡ 256
   pub point : (b : ℕ) → b < 256 → get_or points b 0 ≡ code_point b
-
--- a character's byte, where it has one
-abbrev pub byte_reply_of : ByteReply → Option ℕ
-byte_reply_of (Byte b) = some b
-byte_reply_of Unmappable = none
 
 -- the bytes of a character by its first, which is not ASCII, where there are not four
 abbrev pub size_by : ℕ → ℕ

@@ -1,24 +1,23 @@
 -- The loop of `measure_strings`, and the outcomes of `measure_payload`.
 -- Assumes nothing.
-use Prim.Native.Nat.{ℕ, zero, suc, ◌+◌, ◌-◌, ◌*◌, ◌/◌, ◌%◌, ◌^◌, ◌≤◌, ◌<◌}
+use Prim.Native.Nat.{ℕ, zero, ◌+◌, ◌-◌, ◌/◌, ◌%◌, ◌^◌, ◌≤◌, ◌<◌}
 use mathlib.Core.Path.{◌≡◌, refl, sym, ap, ◌∙◌}
-use mathlib.Core.Bool.{Bool, true, false, not}
+use mathlib.Core.Bool.{Bool, true, false}
 use mathlib.Core.List.{List, flat_map}
-use native.Mathlib.Numerals.{add-one}
+use Rattle.std.specs.Int.{div_ceil}
+use Rattle.std.specs.Prelude.{Some, None}
 use native.Mathlib.Omega.{arith}
-use borrow.Author.Tests.{le-leb, lt-leb, eq-eqb, ne_eqb, not-true, not-false}
+use borrow.Author.Tests.{le-leb, lt-leb, eq-eqb, ne_eqb}
 use lib.Dec.{leb}
 use lib.ListN.{length}
 use Rattle.text.specs.Result.{Result, ok, error, map_result, check, fold_range, ◌>>◌, ◌>>=◌}
-use Rattle.text.proofs.ResultLaws.{reply_is, seq_passed, fold_range_done, fold_range_yes, fold_range_no, fold_range_passed}
-use Rattle.writer.specs.Array.{string_units, all_units, payload, is_shape, check_shape, array_of}
+use Rattle.text.specs.declared.error.Failure.{Failure}
+use Rattle.text.proofs.ResultLaws.{fold_range_done, fold_range_yes, fold_range_no}
+use Rattle.writer.specs.Array.{all_units, payload, is_shape, check_shape, array_of}
 use Rattle.writer.specs.Spans.{string_at, strings_from, strings_in, check_string, check_strings}
-use Rattle.writer.specs.Stages.Payload.{string_end, MeasuresString, measured_strings, text_measure_of, array_in}
+use Rattle.writer.specs.Stages.Payload.{MeasuresString, measured_strings, array_in}
 use Rattle.writer.specs.Replies.{measured_payload}
-use Rattle.writer.specs.declared.checks.StringMeasure.{StringMeasure}
-use Rattle.writer.specs.declared.checks.StringMeasure.TheVariants as string
-use Rattle.writer.specs.declared.checks.TextMeasure.{TextMeasure}
-use Rattle.writer.specs.declared.checks.TextMeasure.TheVariants as strings
+use Rattle.writer.specs.declared.checks.StringSize.{StringSize}
 use Rattle.writer.proofs.ArrayLaws.{length_payload}
 use Rattle.writer.proofs.StringWordLaws.{length_string_words, length_strings}
 use Rattle.writer.proofs.SpanLaws.{string_passed, units_most, strings_cons, units_cons}
@@ -42,73 +41,41 @@ module _ (text spans : List ℕ) (n : ℕ) where
       let w : 0 + length (all_units (strings_from text spans 0 n)) ≡ length (all_units (strings_from text spans 0 n)) = omega arith in
       record { bound = omega arith; most = omega arith; inside = omega arith; whole = rw (z, w) }
 
-  module _ {units end i : ℕ} {x : StringMeasure} (m : Measuring text spans n units end i) (h : i < n) (w : MeasuresString text spans i end x) where
-    module _ {next more : ℕ} (g : x ≡ string.Units next more) where
-      checked : check_string text spans i end ≡ ok next
-      checked = reply_is (string_end i) w.checked g
-
-      more_is : more ≡ length (string_units (string_at text spans i))
-      more_is = rw g at w.units
-
+  module _ {units end i : ℕ} (m : Measuring text spans n units end i) (h : i < n) where
+    module _ {s : StringSize} (w : MeasuresString text spans i end (Some s)) where
       -- with one string more
-      measure_bounds : (units + more ≤ next) × (next ≤ length text)
+      measure_bounds : (units + s.units ≤ s.end) × (s.end ≤ length text)
       measure_bounds =
-          let p = string_passed text spans i end checked in
+          let p = string_passed text spans i end (sym w.checked) in
           let u = units_most p in
-          (omega (arith, more_is), omega arith)
+          (omega (arith, w.units), omega arith)
 
-      pub measure_fits : length text < 2 ^ 64 → units + more < 2 ^ 64
+      pub measure_fits : length text < 2 ^ 64 → units + s.units < 2 ^ 64
       measure_fits f = omega (arith, measure_bounds)
 
-      units_on : units + length (all_units (strings_from text spans i (n - i))) ≡ units + more + length (all_units (strings_from text spans (i + 1) (n - (i + 1))))
+      units_on : units + length (all_units (strings_from text spans i (n - i))) ≡ units + s.units + length (all_units (strings_from text spans (i + 1) (n - (i + 1))))
       units_on =
-          rw (strings_cons text spans i n h) (omega (arith, more_is, units_cons (string_at text spans i) (strings_from text spans (i + 1) (n - (i + 1)))))
+          rw (strings_cons text spans i n h) (omega (arith, w.units, units_cons (string_at text spans i) (strings_from text spans (i + 1) (n - (i + 1)))))
 
-      pub measure_turn : Measuring text spans n (units + more) next (i + 1)
+      pub measure_turn : Measuring text spans n (units + s.units) s.end (i + 1)
       measure_turn =
           let b = measure_bounds in
           record {
             bound = omega arith;
             most = b.0;
             inside = b.1;
-            whole = rw (fold_range_yes (check_string text spans) i n end h checked, units_on) at m.whole;
+            whole = rw (fold_range_yes (check_string text spans) i n end h (sym w.checked), units_on) at m.whole;
           }
 
-    pub measure_stop : x ≡ string.Bad → text_measure_of (strings.Bad i) ≡ measured_strings text spans n
-    measure_stop g =
-        sym (rw (fold_range_no (check_string text spans) i n end h (reply_is (string_end i) w.checked g)) at m.whole)
+    pub measure_stop : MeasuresString text spans i end None → error (record { number = 30; place = i }) ≡ measured_strings text spans n
+    measure_stop w = sym (rw (fold_range_no (check_string text spans) i n end h (sym w.checked)) at m.whole)
 
-  pub measure_last : {units end i : ℕ} → Measuring text spans n units end i → n ≤ i → text_measure_of (strings.Units units) ≡ measured_strings text spans n
+  pub measure_last : {units end i : ℕ} → Measuring text spans n units end i → n ≤ i → ok units ≡ measured_strings text spans n
   unfolding strings_from flat_map
   measure_last {units} {end} {i} m h =
       let z : n - i ≡ zero = omega arith in
       let k : units + 0 ≡ units = omega arith in
       sym (rw (fold_range_done (check_string text spans) i n end h, z) at m.whole ∙ ap ok k)
-
--- the units of all strings are at most the text's bytes
-units_from : (text spans : List ℕ) (k i n end : ℕ) {last : ℕ} → i + k ≡ n → fold_range (check_string text spans) i n end ≡ ok last → end ≤ length text
-    → end + length (all_units (strings_from text spans i k)) ≤ length text
-unfolding strings_from flat_map
-units_from text spans zero i n end c e h = omega arith
-units_from text spans (suc k) i n end c e h =
-    let p = fold_range_passed (check_string text spans) i n end (omega arith) e in
-    let s = string_passed text spans i end p.1.0 in
-    let u = units_most s in
-    let rest = units_from text spans k (suc i) n p.0 (omega arith) (rw (add-one i) at p.1.1) (omega arith) in
-    omega (arith, rest, units_cons (string_at text spans i) (strings_from text spans (suc i) k))
-
-units_all : (text spans : List ℕ) (n : ℕ) {last : ℕ} → fold_range (check_string text spans) 0 n 0 ≡ ok last → length (all_units (strings_from text spans 0 n)) ≤ length text
-units_all text spans n e = omega (arith, units_from text spans n 0 n 0 (omega arith) e (omega arith))
-
--- so that three more fit 64 bits
-pub units_fit : (text spans : List ℕ) (n : ℕ) {x : TextMeasure} {u : ℕ} → length text * 1 < 2 ^ 63 → text_measure_of x ≡ measured_strings text spans n → x ≡ strings.Units u
-    → u + 3 < 2 ^ 64
-unfolding measured_strings
-units_fit text spans n {x} {u} f e g =
-    let p = seq_passed (fold_range (check_string text spans) 0 n 0) (ok (length (all_units (strings_from text spans 0 n)))) (reply_is text_measure_of e g) in
-    let k = p.1.1 in
-    let z : length (all_units (strings_from text spans 0 n)) ≡ u = cc in
-    omega (arith, units_all text spans n p.1.0)
 
 -- ---- the outcomes of `measure_payload`
 
@@ -126,7 +93,7 @@ map_strings f (error e) a g u k h = refl
 
 -- the words of a payload, by the number of units
 abbrev pub payload_words : List ℕ → List ℕ → ℕ → ℕ
-payload_words dims spans units = 2 + length dims + length spans / 2 + (units + 3) / 4
+payload_words dims spans units = 2 + length dims + length spans / 2 + div_ceil units 4
 
 module _ (dims text spans : List ℕ) where
   words_are : length (payload (array_in dims text spans)) ≡ payload_words dims spans (length (all_units (strings_in text spans)))
@@ -156,21 +123,17 @@ module _ (dims text spans : List ℕ) where
   unfolding array_of check_strings
   payload_odd h = simp (ne_eqb (length spans % 2) 0 h)
 
-  module _ (e : length spans % 2 ≡ 0) {x : TextMeasure} (s : text_measure_of x ≡ measured_strings text spans (length spans / 2)) where
-    pub payload_bad : {i : ℕ} → x ≡ strings.Bad i → error (record { number = 30; place = i }) ≡ measured_payload dims text spans
-    payload_bad g = sym (rw (reply_is text_measure_of s g) at (measured_is e))
+  module _ (e : length spans % 2 ≡ 0) where
+    pub payload_refused : {f : Failure} → error f ≡ measured_strings text spans (length spans / 2) → error f ≡ measured_payload dims text spans
+    payload_refused s = sym (rw (sym s) at (measured_is e))
 
-    module _ {u : ℕ} (g : x ≡ strings.Units u) (r : Bool) (k : r ≡ is_shape dims (length spans / 2)) where
-      pub payload_shapeless : not r ≡ true → error (record { number = 31; place = length spans / 2 }) ≡ measured_payload dims text spans
-      payload_shapeless t = sym (rw (reply_is text_measure_of s g, ← k, not-true r t) at (measured_is e))
+    module _ {u : ℕ} (s : ok u ≡ measured_strings text spans (length spans / 2)) {r : Bool} (k : r ≡ is_shape dims (length spans / 2)) where
+      pub payload_shapeless : r ≡ false → error (record { number = 31; place = length spans / 2 }) ≡ measured_payload dims text spans
+      payload_shapeless t = sym (rw (sym s, ← k, t) at (measured_is e))
 
-      pub payload_long : not r ≡ false → 2097152 < payload_words dims spans u
-          → error (record { number = 32; place = payload_words dims spans u }) ≡ measured_payload dims text spans
-      payload_long t h =
-          sym (rw (reply_is text_measure_of s g, ← k, not-false r t, lt-leb (payload_words dims spans u) 2097152 h) at (measured_is e))
+      module _ {words : ℕ} (w : words ≡ payload_words dims spans u) where
+        pub payload_long : r ≡ true → 2097152 < words → error (record { number = 32; place = words }) ≡ measured_payload dims text spans
+        payload_long t h = rw w (sym (rw (sym s, ← k, t, lt-leb (payload_words dims spans u) 2097152 (omega arith)) at (measured_is e)))
 
-      pub payload_fits : not r ≡ false → payload_words dims spans u ≤ 2097152 → ok (payload_words dims spans u) ≡ measured_payload dims text spans
-      payload_fits t h =
-          sym (rw (reply_is text_measure_of s g, ← k, not-false r t, le-leb (payload_words dims spans u) 2097152 h) at (measured_is e))
-
-pub ruleset payload_outcomes = (payload_odd, payload_bad, payload_shapeless, payload_long, payload_fits)
+        pub payload_fits : r ≡ true → words ≤ 2097152 → ok words ≡ measured_payload dims text spans
+        payload_fits t h = rw w (sym (rw (sym s, ← k, t, le-leb (payload_words dims spans u) 2097152 (omega arith)) at (measured_is e)))

@@ -1,23 +1,24 @@
 -- Comparing bytes with the metadata blob, part by part.
 -- Assumes nothing.
-use mathlib.Core.Path.{◌≡◌, sym, ap, ◌∙◌}
-use mathlib.Core.Bool.{Bool, true, false, not, ◌&&◌, and-false}
+use mathlib.Core.Path.{◌≡◌, refl, sym, ap, ap₂, ◌∙◌}
+use mathlib.Core.Bool.{Bool, true, false, ◌&&◌, and_assoc}
 use mathlib.Core.List.{List, [], ◌∷◌, ◌++◌, flat_map}
-use Prim.Native.Nat.{ℕ, suc, ◌+◌, ◌-◌, ◌*◌, ◌/◌, ◌%◌, ◌^◌, ◌≤◌, ◌<◌}
+use Prim.Native.Nat.{ℕ, zero, suc, max, ◌+◌, ◌-◌, ◌*◌, ◌^◌, ◌≤◌, ◌<◌}
 use native.Mathlib.Numerals.{add-one}
 use native.Mathlib.Omega.{arith}
-use borrow.Author.Tests.{eqb-true, eqb-false, le-leb, lt-leb, not-true, not-false}
+use borrow.Author.Tests.{eq-eqb, ne_eqb, eqb-true, eqb-false, le-leb, lt-leb}
+use Rattle.std.specs.Int.{w32, from_le_bytes}
+use Rattle.std.specs.List.{fold, list_all, range_with_len}
+use Rattle.std.proofs.lemmas.Nat.{le_bytes_4, from_le_bytes-to_le_bytes_4}
 use lib.Dec.{eqb}
-use lib.ListN.{length, replicate, get_or, take, drop, length-append, drop_of_length-le}
+use lib.ListN.{length, replicate, get_or, take, drop, length-take, length-drop, length-replicate, drop_of_length-le}
 use lib.Seq.{drop-cons, drop-drop, take_all}
 use Rattle.text.specs.Buffer.{same}
 use Rattle.text.proofs.SameLaws.{same_refl, same_not, same_append}
 use Rattle.text.proofs.TestLaws.{either}
-use Rattle.writer.specs.FileWrapper.{u32_bytes, u32s, entry, entries_from, file_wrapper, is_file_wrapper}
-use Rattle.writer.specs.Stages.Compare.{stands_at, Has}
+use Rattle.writer.specs.FileWrapper.{Region, SavedBlocks, Objects, u32_bytes, u32s, entry, entries_from, file_wrapper, is_file_wrapper}
+use Rattle.writer.specs.Stages.Compare.{stands_at}
 use Rattle.writer.specs.Stages.FileWrapper.{file_head}
-use Rattle.writer.specs.declared.file_wrapper.Region.{Region}
-use Rattle.writer.specs.declared.file_wrapper.Region.TheVariants.{SavedBlocks, Objects, Dependents}
 use Rattle.writer.proofs.FileWrapperLaws.{length_u32s, entry_size, length_entry, length_entries, length_head, file_wrapper_is, length_file_wrapper}
 
 -- ---- one part after another
@@ -47,41 +48,21 @@ four_bytes b i h =
       drop-cons b (suc (suc (suc i))) 0 (omega arith),
     )
 
--- a word's bytes, and the word of bytes
-last_byte : (v p q : ℕ) → p < 256 → v ≡ p + 256 * q → v % 256 ≡ p
-last_byte v p q h e = omega arith
-
-word_sum : (v : ℕ) → v < 2 ^ 32 → v % 256 + 256 * (v / 256 % 256) + 65536 * (v / 65536 % 256) + 16777216 * (v / 16777216 % 256) ≡ v
-word_sum v h =
-    let two : v / 256 ≡ v / 256 % 256 + 256 * (v / 65536) = omega arith in
-    let three : v / 65536 ≡ v / 65536 % 256 + 256 * (v / 16777216) = omega arith in
-    let four : v / 16777216 % 256 ≡ v / 16777216 = omega arith in
-    omega arith
-
--- four-bytes bytes are those of the word that they make
+-- four bytes make a word exactly where they are its bytes
 bytes_of : (p q r s v : ℕ) → p < 256 → q < 256 → r < 256 → s < 256 → v < 2 ^ 32
-    → eqb (p + 256 * q + 65536 * r + 16777216 * s) v ≡ same (p ∷ q ∷ r ∷ s ∷ []) (u32_bytes v)
+    → eqb (from_le_bytes w32 (p ∷ q ∷ r ∷ s ∷ [])) v ≡ same (p ∷ q ∷ r ∷ s ∷ []) (u32_bytes v)
 bytes_of p q r s v a b c d h =
-    either (eqb (p + 256 * q + 65536 * r + 16777216 * s) v)
-    (λ e.
-    let k = eqb-true _ v e in
-    let w : v % 256 ≡ p = omega arith in
-    let x : v / 256 % 256 ≡ q = last_byte (v / 256) q (r + 256 * s) b (omega arith) in
-    let y : v / 65536 % 256 ≡ r = last_byte (v / 65536) r s c (omega arith) in
-    let z : v / 16777216 % 256 ≡ s = last_byte (v / 16777216) s 0 d (omega arith) in
-    rw (w, x, y, z) (e ∙ sym (same_refl _)))
-    (λ e. e ∙ sym (same_not _ _ (λ k.
-    let w : v % 256 ≡ p = cc in
-    let x : v / 256 % 256 ≡ q = cc in
-    let y : v / 65536 % 256 ≡ r = cc in
-    let z : v / 16777216 % 256 ≡ s = cc in
-    eqb-false _ v e (rw (w, x, y, z) at (word_sum v h)))))
-
-pub word_is : (b : List ℕ) (i v : ℕ) {p q r s : ℕ} → i + 4 ≤ length b → v < 2 ^ 32 → (p ≡ get_or b i 0) × (p < 256) → (q ≡ get_or b (i + 1) 0) × (q < 256)
-    → (r ≡ get_or b (i + 2) 0) × (r < 256) → (s ≡ get_or b (i + 3) 0) × (s < 256) → Has b i (u32_bytes v) (eqb (p + 256 * q + 65536 * r + 16777216 * s) v)
-unfolding stands_at
-word_is b i v {p} {q} {r} {s} h k e f g j =
-    record { is = rw (four_bytes b i h, ← e.0, ← f.0, ← g.0, ← j.0) (bytes_of p q r s v e.1 f.1 g.1 j.1 k) }
+    let bs : List ℕ = p ∷ q ∷ r ∷ s ∷ [] in
+    either (eqb (from_le_bytes w32 bs) v)
+    (λ e. e ∙ sym (rw (le_bytes_4 bs v refl small (sym (eqb-true _ v e))) (same_refl bs)))
+    (λ e. e ∙ sym (same_not bs (u32_bytes v) (λ k. eqb-false _ v e (ap (from_le_bytes w32) k ∙ from_le_bytes-to_le_bytes_4 v h))))
+  where
+    small : (i : ℕ) → get_or (p ∷ q ∷ r ∷ s ∷ []) i 0 < 256
+    small zero = a
+    small (suc zero) = b
+    small (suc (suc zero)) = c
+    small (suc (suc (suc zero))) = d
+    small (suc (suc (suc (suc i)))) = omega arith
 
 -- ---- words
 
@@ -90,92 +71,84 @@ pub record Reading (b ws : List ℕ) (at i : ℕ) : Type 0 where
   pub bound : i ≤ length ws
   pub rest : stands_at b at (u32s ws) ≡ stands_at b (at + 4 * i) (u32s (drop i ws))
 
-module _ {b ws : List ℕ} {at : ℕ} where
-  module _ {i : ℕ} (m : Reading b ws at i) {p : Bool} (e : Has b (at + 4 * i) (u32_bytes (get_or ws i 0)) p) (h : i < length ws) where
-    after_word : stands_at b at (u32s ws) ≡ (p && stands_at b (at + 4 * (i + 1)) (u32s (drop (i + 1) ws)))
+module _ (b ws : List ℕ) (at : ℕ) where
+  module _ {i n : ℕ} (room : at + 4 * length ws ≤ length b) (small : (k : ℕ) → get_or b k 0 < 256) (m : Reading b ws at i) (h : i < length ws) (f : get_or ws i 0 < 2 ^ 32)
+      (e : n ≡ from_le_bytes w32 (get_or b (at + 4 * i) 0 ∷ get_or b (at + 4 * i + 1) 0 ∷ get_or b (at + 4 * i + 2) 0 ∷ get_or b (at + 4 * i + 3) 0 ∷ [])) where
+    word_stands : eqb n (get_or ws i 0) ≡ stands_at b (at + 4 * i) (u32_bytes (get_or ws i 0))
+    unfolding stands_at
+    word_stands =
+        rw (e, four_bytes b (at + 4 * i) (omega arith))
+        (bytes_of _ _ _ _ (get_or ws i 0) (small (at + 4 * i)) (small (at + 4 * i + 1)) (small (at + 4 * i + 2)) (small (at + 4 * i + 3)) f)
+
+    after_word : stands_at b at (u32s ws) ≡ (eqb n (get_or ws i 0) && stands_at b (at + 4 * (i + 1)) (u32s (drop (i + 1) ws)))
     unfolding u32s flat_map
     after_word =
         m.rest ∙ rw (drop-cons ws i 0 h, add-one i)
-        (stands_append b (u32_bytes (get_or ws i 0)) (at + 4 * i) (at + 4 * suc i) (omega arith) (u32s (drop (suc i) ws)) ∙ rw e.is)
+        (stands_append b (u32_bytes (get_or ws i 0)) (at + 4 * i) (at + 4 * suc i) (omega arith) (u32s (drop (suc i) ws)) ∙ rw word_stands)
 
-    pub reading_turn : not p ≡ false → Reading b ws at (i + 1)
-    reading_turn f = record { bound = omega arith; rest = after_word ∙ rw (not-false p f) }
+    pub reading_turn : n ≡ get_or ws i 0 → Reading b ws at (i + 1)
+    reading_turn k = record { bound = omega arith; rest = after_word ∙ rw (eq-eqb n (get_or ws i 0) k) }
 
-    pub reading_stop : not p ≡ true → Has b at (u32s ws) false
-    reading_stop f = record { is = sym (after_word ∙ rw (not-true p f)) }
+    pub reading_stop : (n ≡ get_or ws i 0 → ⊥) → false ≡ stands_at b at (u32s ws)
+    reading_stop k = sym (after_word ∙ rw (ne_eqb n (get_or ws i 0) k))
 
-  pub reading_last : {i : ℕ} → Reading b ws at i → length ws ≤ i → Has b at (u32s ws) true
+  pub reading_last : {i : ℕ} → Reading b ws at i → length ws ≤ i → true ≡ stands_at b at (u32s ws)
   unfolding u32s flat_map
-  reading_last {i} m h = record { is = sym (m.rest ∙ rw (drop_of_length-le ws h) (stands_none b (at + 4 * i))) }
+  reading_last {i} m h = sym (m.rest ∙ rw (drop_of_length-le ws h) (stands_none b (at + 4 * i)))
 
 -- ---- entries
 
--- the loop that compares b from index at on with the entries of n objects: the answer is that of the entries from object i on, at index next
-pub record Comparing (b : List ℕ) (r : Region) (size n at next i : ℕ) : Type 0 where
-  pub bound : i ≤ n
-  pub step : size ≡ entry_size r
-  pub small : size ≤ 24
-  pub room : next + length (entries_from r i (n - i)) ≤ length b
-  pub rest : stands_at b at (entries_from r 0 n) ≡ stands_at b next (entries_from r i (n - i))
-
-entry_small : (r : Region) → entry_size r ≤ 24
-entry_small SavedBlocks = omega arith
-entry_small Objects = omega arith
-entry_small Dependents = omega arith
-
--- the entry of object i, and those after it
-entries_next : (r : Region) (i n : ℕ) → i < n → entries_from r i (n - i) ≡ u32s (entry r i) ++ entries_from r (i + 1) (n - (i + 1))
+-- entries stand where each stands
+pub entries_stand : (b : List ℕ) (r : Region) (i n at : ℕ)
+    → stands_at b (at + entry_size r * i) (entries_from r i n) ≡ list_all (λ k. stands_at b (at + entry_size r * k) (u32s (entry r k))) (range_with_len i n)
 unfolding entries_from
-entries_next r i n h =
-    let k : n - i ≡ suc (n - (i + 1)) = omega arith in
-    rw (k, add-one i)
+entries_stand b r i zero at = stands_none b (at + entry_size r * i)
+entries_stand b r i (suc n) at =
+    let e : at + entry_size r * i + length (u32s (entry r i)) ≡ at + entry_size r * suc i = omega (arith, length_entry r i) in
+    stands_append b (u32s (entry r i)) (at + entry_size r * i) (at + entry_size r * suc i) e (entries_from r (suc i) n)
+    ∙ rw (add-one i, entries_stand b r (suc i) n at)
 
-module _ {b : List ℕ} {r : Region} {size n at : ℕ} where
-  module _ {next i : ℕ} (m : Comparing b r size n at next i) (h : i < n) where
-    room_next : next + size + length (entries_from r (i + 1) (n - (i + 1))) ≤ length b
-    room_next =
-        omega (arith, ap length (entries_next r i n h), length-append (u32s (entry r i)) (entries_from r (i + 1) (n - (i + 1))), length_entry r i)
+pub blocks_stand : (b : List ℕ) (n : ℕ)
+    → list_all (λ i. stands_at b (96 + 16 * i) (u32s (entry SavedBlocks i))) (range_with_len 0 n) ≡ stands_at b 96 (entries_from SavedBlocks 0 n)
+blocks_stand b n = sym (entries_stand b SavedBlocks 0 n 96)
 
-    pub comparing_room : next + entry_size r ≤ length b
-    comparing_room = omega (arith, room_next)
+pub records_stand : (b : List ℕ) (n : ℕ)
+    → list_all (λ i. stands_at b (120 + 16 * n + 24 * i) (u32s (entry Objects i))) (range_with_len 0 n) ≡ stands_at b (120 + 16 * n) (entries_from Objects 0 n)
+records_stand b n =
+    let z : 120 + 16 * n + 24 * 0 ≡ 120 + 16 * n = omega arith in
+    sym (rw z at (entries_stand b Objects 0 n (120 + 16 * n)))
 
-    module _ {p : Bool} (e : Has b next (u32s (entry r i)) p) where
-      after_entry : stands_at b at (entries_from r 0 n) ≡ (p && stands_at b (next + size) (entries_from r (i + 1) (n - (i + 1))))
-      after_entry =
-          m.rest ∙ rw (entries_next r i n h, e.is) (stands_append b (u32s (entry r i)) next (next + size) (omega (arith, length_entry r i)) _)
+-- ---- zeros
 
-      pub comparing_turn : not p ≡ false → Comparing b r size n at (next + size) (i + 1)
-      comparing_turn f = record { bound = omega arith; step = m.step; small = m.small; room = room_next; rest = after_entry ∙ rw (not-false p f) }
+-- the largest of bytes, and of a, is zero where all are
+zeros_from : (a : ℕ) (xs : List ℕ) → fold (λ h x. max h x) a xs ≡ 0 → (a ≡ 0) × (xs ≡ replicate (length xs) 0)
+zeros_from a [] e = (e, refl)
+zeros_from a (x ∷ xs) e =
+    let p = zeros_from (max a x) xs e in
+    let z : x ≡ 0 = omega (arith, p.0) in
+    (omega (arith, p.0), ap₂ (λ (y : ℕ) (ys : List ℕ). y ∷ ys) z p.1)
 
-      pub comparing_stop : not p ≡ true → Has b at (entries_from r 0 n) false
-      comparing_stop f = record { is = sym (after_entry ∙ rw (not-true p f)) }
+zeros_most : (n : ℕ) → fold (λ h x. max h x) 0 (replicate n 0) ≡ 0
+zeros_most zero = refl
+zeros_most (suc n) = zeros_most n
 
-  pub comparing_last : {next i : ℕ} → Comparing b r size n at next i → n ≤ i → Has b at (entries_from r 0 n) true
-  unfolding entries_from
-  comparing_last {next} {i} m h =
-      let none : n - i ≡ 0 = omega arith in
-      record { is = sym (m.rest ∙ rw none (stands_none b next)) }
+pub zeros_are : (xs : List ℕ) → eqb (fold (λ h x. max h x) 0 xs) 0 ≡ same xs (replicate (length xs) 0)
+zeros_are xs =
+    let m : ℕ = fold (λ h x. max h x) 0 xs in
+    either (eqb m 0) (λ e. e ∙ sym (ap (same xs) (sym (zeros_from 0 xs (eqb-true m 0 e)).1) ∙ same_refl xs))
+    (λ e. e ∙ sym (same_not xs (replicate (length xs) 0) (λ k. eqb-false m 0 e (ap (fold (λ h x. max h x) 0) k ∙ zeros_most (length xs)))))
 
 -- ---- the whole blob
 
-lacks : {b w : List ℕ} {i : ℕ} {p : Bool} → Has b i w p → not p ≡ true → stands_at b i w ≡ false
-lacks {b} {w} {i} {p} e f = sym e.is ∙ not-true p f
-
-has : {b w : List ℕ} {i : ℕ} {p : Bool} → Has b i w p → not p ≡ false → stands_at b i w ≡ true
-has {b} {w} {i} {p} e f = sym e.is ∙ not-false p f
-
--- bytes of the blob's length are the blob where they have each part, and not where they lack one
+-- bytes of the blob's length are the blob where they have each part
 module _ (n : ℕ) (b : List ℕ) (l : length b ≡ 144 + 48 * n) where
-  whole : same b (file_wrapper n)
+  pub parts_stand : same b (file_wrapper n)
       ≡ (stands_at b 0 (file_head n)
       && (stands_at b 96 (entries_from SavedBlocks 0 n)
       && (stands_at b (96 + 16 * n) (u32s (replicate 6 0))
-      && (stands_at b (120 + 16 * n) (entries_from Objects 0 n)
-      && (stands_at b (120 + 40 * n) (u32s (replicate 4 0))
-      && (stands_at b (136 + 40 * n) (entries_from Dependents 0 n)
-      && stands_at b (136 + 48 * n) (u32s (replicate 2 0))))))))
+      && (stands_at b (120 + 16 * n) (entries_from Objects 0 n) && stands_at b (120 + 40 * n) (replicate (24 + 8 * n) 0)))))
   unfolding stands_at
-  whole =
+  parts_stand =
       ap (λ (x : List ℕ). same x (file_wrapper n)) (sym (take_all (length (file_wrapper n)) b (omega (arith, length_file_wrapper n))))
       ∙ ap (stands_at b 0) (file_wrapper_is n)
       ∙ rw (
@@ -183,52 +156,40 @@ module _ (n : ℕ) (b : List ℕ) (l : length b ≡ 144 + 48 * n) where
         stands_append b (entries_from SavedBlocks 0 n) 96 (96 + 16 * n) (omega (arith, length_entries SavedBlocks 0 n)),
         stands_append b (u32s (replicate 6 0)) (96 + 16 * n) (120 + 16 * n) (omega (arith, length_u32s (replicate 6 0))),
         stands_append b (entries_from Objects 0 n) (120 + 16 * n) (120 + 40 * n) (omega (arith, length_entries Objects 0 n)),
-        stands_append b (u32s (replicate 4 0)) (120 + 40 * n) (136 + 40 * n) (omega (arith, length_u32s (replicate 4 0))),
-        stands_append b (entries_from Dependents 0 n) (136 + 40 * n) (136 + 48 * n) (omega (arith, length_entries Dependents 0 n)),
       )
 
-  head_has : (head : List ℕ) {p : Bool} → u32s head ≡ file_head n → Has b 0 (u32s head) p → Has b 0 (file_head n) p
-  head_has head h e = rw h at e
+  -- the tests of the parts, one after another
+  pub parts_tested : {v₁ v₂ v₃ v₄ : Bool} → v₁ ≡ (stands_at b 0 (file_head n) && stands_at b 96 (entries_from SavedBlocks 0 n))
+      → v₂ ≡ (v₁ && stands_at b (96 + 16 * n) (u32s (replicate 6 0))) → v₃ ≡ (v₂ && stands_at b (120 + 16 * n) (entries_from Objects 0 n))
+      → v₄ ≡ (v₃ && stands_at b (120 + 40 * n) (replicate (24 + 8 * n) 0)) → v₄ ≡ same b (file_wrapper n)
+  parts_tested e f g h = h ∙ rw (g, f, e) (simp and_assoc (sym parts_stand))
 
-  module _ {p : Bool} (f : not p ≡ true) where
-    pub lacks_head : (head : List ℕ) → u32s head ≡ file_head n → Has b 0 (u32s head) p → false ≡ same b (file_wrapper n)
-    lacks_head head h e = sym (whole ∙ simp (lacks (head_has head h e) f))
+  pub zeros_stand : {p : Bool} → p ≡ same (take (length b - (120 + 40 * n)) (drop (120 + 40 * n) b)) (replicate (length (take (length b - (120 + 40 * n)) (drop (120 + 40 * n) b))) 0)
+      → p ≡ stands_at b (120 + 40 * n) (replicate (24 + 8 * n) 0)
+  unfolding stands_at
+  zeros_stand e =
+      let k : length b - (120 + 40 * n) ≡ 24 + 8 * n = omega arith in
+      let z : length (take (24 + 8 * n) (drop (120 + 40 * n) b)) ≡ 24 + 8 * n = omega (arith, length-take (24 + 8 * n) (drop (120 + 40 * n) b), length-drop (120 + 40 * n) b) in
+      e ∙ rw (k, z, length-replicate)
 
-    pub lacks_blocks : Has b 96 (entries_from SavedBlocks 0 n) p → false ≡ same b (file_wrapper n)
-    lacks_blocks e = sym (whole ∙ simp (lacks e f, and-false))
+-- a value of `&&`, by the test before it
+pub both_yes : {v p q s t : Bool} → p ≡ true → p ≡ s → v ≡ q → q ≡ t → v ≡ (s && t)
+both_yes a b e f = rw (sym b ∙ a) (e ∙ f)
 
-    pub lacks_record : Has b (96 + 16 * n) (u32s (replicate 6 0)) p → false ≡ same b (file_wrapper n)
-    lacks_record e = sym (whole ∙ simp (lacks e f, and-false))
+pub both_no : {v p s : Bool} (t : Bool) → p ≡ false → p ≡ s → v ≡ p → v ≡ (s && t)
+both_no t a b e = rw (sym b ∙ a) (e ∙ a)
 
-    pub lacks_records : Has b (120 + 16 * n) (entries_from Objects 0 n) p → false ≡ same b (file_wrapper n)
-    lacks_records e = sym (whole ∙ simp (lacks e f, and-false))
-
-    pub lacks_zeros : Has b (120 + 40 * n) (u32s (replicate 4 0)) p → false ≡ same b (file_wrapper n)
-    lacks_zeros e = sym (whole ∙ simp (lacks e f, and-false))
-
-    pub lacks_dependents : Has b (136 + 40 * n) (entries_from Dependents 0 n) p → false ≡ same b (file_wrapper n)
-    lacks_dependents e = sym (whole ∙ simp (lacks e f, and-false))
-
-  pub has_all : (head : List ℕ) {p₁ p₂ p₃ p₄ p₅ p₆ p : Bool} → u32s head ≡ file_head n → Has b 0 (u32s head) p₁ → not p₁ ≡ false
-      → Has b 96 (entries_from SavedBlocks 0 n) p₂ → not p₂ ≡ false
-      → Has b (96 + 16 * n) (u32s (replicate 6 0)) p₃ → not p₃ ≡ false
-      → Has b (120 + 16 * n) (entries_from Objects 0 n) p₄ → not p₄ ≡ false
-      → Has b (120 + 40 * n) (u32s (replicate 4 0)) p₅ → not p₅ ≡ false
-      → Has b (136 + 40 * n) (entries_from Dependents 0 n) p₆ → not p₆ ≡ false
-      → Has b (136 + 48 * n) (u32s (replicate 2 0)) p → p ≡ same b (file_wrapper n)
-  has_all head h e₁ f₁ e₂ f₂ e₃ f₃ e₄ f₄ e₅ f₅ e₆ f₆ e = e.is ∙ sym (whole ∙ simp (has (head_has head h e₁) f₁, has e₂ f₂, has e₃ f₃, has e₄ f₄, has e₅ f₅, has e₆ f₆))
-
--- ---- whether bytes are the blob, where m is n as an index
+-- ---- whether bytes are the blob
 
 pub many_not : (n : ℕ) (b : List ℕ) → 349522 < n → false ≡ is_file_wrapper n b
 unfolding is_file_wrapper
 many_not n b h = simp (lt-leb n 349522 h)
 
-module _ (n m : ℕ) (b : List ℕ) (h : n ≤ 349522) (e : m ≡ n) where
-  pub length_not : (length b ≡ 144 + 48 * m → ⊥) → false ≡ is_file_wrapper n b
+module _ (n : ℕ) (b : List ℕ) (h : n ≤ 349522) where
+  pub length_not : (length b ≡ length (file_wrapper n) → ⊥) → false ≡ is_file_wrapper n b
   unfolding is_file_wrapper
-  length_not k = simp (le-leb n 349522 h) (sym (same_not b (file_wrapper n) (λ i. k (ap length i ∙ omega (arith, length_file_wrapper n)))))
+  length_not k = simp (le-leb n 349522 h) (sym (same_not b (file_wrapper n) (λ i. k (ap length i))))
 
-  pub is_blob : {p : Bool} → p ≡ same b (file_wrapper m) → p ≡ is_file_wrapper n b
+  pub is_blob : {m : ℕ} {p : Bool} → m ≡ n → p ≡ same b (file_wrapper m) → p ≡ is_file_wrapper n b
   unfolding is_file_wrapper
-  is_blob k = simp (le-leb n 349522 h) (rw e at k)
+  is_blob e k = simp (le-leb n 349522 h) (rw e at k)

@@ -3,7 +3,7 @@
 use mathlib.Core.Path.{◌≡◌, ◌∙◌, sym, refl, ap₂}
 use mathlib.Core.Bool.{Bool, true, false}
 use mathlib.Core.List.{List}
-use Prim.Native.Nat.{ℕ, ◌+◌, ◌*◌, ◌%◌, ◌^◌, ◌≤◌, ◌<◌}
+use Prim.Native.Nat.{ℕ, ◌+◌, ◌*◌, ◌%◌, ◌≤◌, ◌<◌}
 use native.Mathlib.Omega.{arith}
 use borrow.Author.Tests.{eqb-true, eqb-false}
 use lib.Dec.{eqb}
@@ -39,20 +39,6 @@ module _ (s : List ℕ) (i : ℕ) (q : SequenceAt s i) where
   pub second_there : i + 1 < length s
   second_there = omega (arith, more, inside)
 
-  -- a slice has fewer than 2^63 bytes
-  module _ (m : length s * 1 < 2 ^ 63) where
-    pub fits_1 : i + 1 < 2 ^ 64
-    fits_1 = omega (arith, first_there)
-
-    pub fits_2 : i + 2 < 2 ^ 64
-    fits_2 = omega (arith, first_there)
-
-    pub fits_3 : i + 3 < 2 ^ 64
-    fits_3 = omega (arith, first_there)
-
-    pub fits_4 : i + 4 < 2 ^ 64
-    fits_4 = omega (arith, first_there)
-
   module _ {r₄ : Bool} (is₄ : r₄ ≡ eqb (sequence_length (get_or s i 0)) 4) where
     module _ (t : r₄ ≡ true) where
       four : sequence_length (get_or s i 0) ≡ 4
@@ -86,7 +72,5 @@ module _ (s : List ℕ) (i : ℕ) (q : SequenceAt s i) where
         of_three = rw (value_3 s i) at (step_is 3 three (omega arith))
 
 pub ruleset there = (first_there, second_there, third_there_of_four, fourth_there)
-
-pub ruleset fits = (fits_1, fits_2, fits_3, fits_4)
 
 pub ruleset sequences = (of_four, of_two)

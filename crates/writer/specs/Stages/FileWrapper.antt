@@ -1,14 +1,7 @@
--- What the private stages of writing a blob promise each other.
+-- The parts of a blob that the private stages of writing it write.
 -- Assumes nothing.
-use Rattle.std.specs.Prelude.{ℕ, ◌+◌, ◌≡◌, List, ◌∷◌, ◌++◌}
-use Rattle.text.specs.Buffer.{put}
-use Rattle.writer.specs.FileWrapper.{u32s, name_heap, class_entries, zero_entry, regions, offsets_from}
-use Rattle.writer.specs.declared.file_wrapper.Region.TheVariants.{SavedBlocks}
-
--- what a function that writes a part w, of so many bytes, at i returns and leaves
-pub record PutsPart (d : List ℕ) (i bytes : ℕ) (w : List ℕ) (next : ℕ) (d' : List ℕ) : Type 0 where
-  pub end : next ≡ i + bytes
-  pub buffer : d' ≡ put d i w
+use Rattle.std.specs.Prelude.{ℕ, List, ◌∷◌, ◌++◌}
+use Rattle.writer.specs.FileWrapper.{SavedBlocks, u32s, name_heap, class_entries, zero_entry, regions, offsets_from}
 
 -- what stands before the entries in the blob for n objects
 unfoldable pub file_head : ℕ → List ℕ

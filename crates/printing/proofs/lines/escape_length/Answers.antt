@@ -7,5 +7,5 @@ use Rattle.printing.proofs.lines.escape_length.Goals as goal
 pub returns-then-is_plain : goal.returns-then-is_plain
 returns-then-is_plain c = search (size_plain, rules)
 
-pub returns : goal.returns
-returns c = search (size_hex, rules)
+pub returns-else-is_plain : goal.returns-else-is_plain
+returns-else-is_plain c = search (size_hex, rules)

@@ -1,11 +1,8 @@
--- What the loop of `reader::blocks::block_after` keeps, and its measure.
+-- What the loop of `reader::blocks::block_after` keeps: it stands at block `counter`.
 -- Assumes nothing.
-use Prim.Native.Nat.{◌-◌}
-use Rattle.reader.proofs.blocks.Laws.{Walking}
+use mathlib.Core.Path.{◌≡◌}
+use Rattle.reader.specs.Blocks.{block_at}
 use Rattle.reader.proofs.blocks.block_after.Given as goal
 
-abbrev pub invariant-loop-k : goal.invariant-loop-k
-invariant-loop-k l = Walking l.size l.blob l.at l.n l.k l.i
-
-abbrev pub decreases-loop-k : goal.decreases-loop-k
-decreases-loop-k l = l.n - l.k
+abbrev pub invariant-loop : goal.invariant-loop
+invariant-loop l = l.i ≡ block_at l.size l.blob l.at l.counter

@@ -1,11 +1,7 @@
--- What the loop of `reader::cells::check_cells` keeps, and its measure.
+-- What the loop of `reader::cells::check_cells` keeps.
 -- Assumes nothing.
-use Prim.Native.Nat.{◌-◌}
 use Rattle.reader.proofs.cells.Laws.{CellsBefore}
 use Rattle.reader.proofs.cells.check_cells.Given as goal
 
 abbrev pub invariant-loop-i : goal.invariant-loop-i
 invariant-loop-i l = CellsBefore l.directory l.words l.n l.end l.i
-
-abbrev pub decreases-loop-i : goal.decreases-loop-i
-decreases-loop-i l = l.n - l.i

@@ -1,15 +1,13 @@
 -- `reader::classes::class_name` meets its contract.
 -- Assumes nothing.
-use Rattle.reader.proofs.NameLaws.{parsed}
-use Rattle.reader.proofs.classes.Laws.{class_written, class_refused}
-use borrow.Author.Rules.{rules}
+use Rattle.reader.specs.Queries.{class_text}
+use Rattle.reader.proofs.NameLaws.{refused, text_by}
 use Rattle.reader.proofs.classes.class_name.Goals as goal
 
-pub write_class-requires : goal.write_class-requires
-write_class-requires c = search (parsed, rules)
+pub returns-in_err-open : goal.returns-in_err-open
+unfolding class_text
+returns-in_err-open c = refused _ _ _ _ c.from_residual.ensures (rw (← c.in_err-open.ensures.0))
 
-pub returns-in-Parsed : goal.returns-in-Parsed
-returns-in-Parsed c = search (class_written, rules)
-
-pub returns-in-Error : goal.returns-in-Error
-returns-in-Error c = search (class_refused, rules)
+pub returns : goal.returns
+unfolding class_text
+returns c = text_by (rw (← c.in_ok-open.ensures.0, c.in_ok-open.ensures.1)) c.write_class.ensures

@@ -1,21 +1,23 @@
 -- `reader::classes::object_class_name` meets its contract.
 -- Assumes nothing.
-use Rattle.reader.proofs.classes.Laws.{object_failed, object_below, object_written, object_refused}
-use Rattle.reader.proofs.NameLaws.{parsed}
-use borrow.Author.Rules.{rules}
+use Rattle.reader.specs.Queries.{object_class_text}
+use Rattle.reader.proofs.NameLaws.{refused, text_by}
+use Rattle.reader.proofs.objects.Laws.{id_below}
 use Rattle.reader.proofs.classes.object_class_name.Goals as goal
 
-pub returns-in-Failed : goal.returns-in-Failed
-returns-in-Failed c = search (object_failed, rules)
+pub returns-in_err-metadata : goal.returns-in_err-metadata
+unfolding object_class_text
+returns-in_err-metadata c = refused _ _ _ _ c.from_residual.ensures (rw (← c.in_err-metadata.ensures.0))
+
+pub returns-in_err-check_object : goal.returns-in_err-check_object
+unfolding object_class_text
+returns-in_err-check_object c =
+    refused _ _ _ _ c.from_residual-in_err-check_object.ensures (rw (← c.in_ok-metadata.ensures.0, ← c.in_err-check_object.ensures))
 
 pub object_record-requires : goal.object_record-requires
-object_record-requires c = search (parsed, object_below, rules)
+object_record-requires c = id_below _ _ c.in_ok-check_object.ensures
 
-pub write_class-requires : goal.write_class-requires
-write_class-requires c = search (parsed, rules)
-
-pub returns-in_default : goal.returns-in_default
-returns-in_default c = search (object_written, rules)
-
-pub returns-in-Error : goal.returns-in-Error
-returns-in-Error c = search (object_refused, rules)
+pub returns : goal.returns
+unfolding object_class_text
+returns c =
+    text_by (rw (← c.in_ok-metadata.ensures.0, ← c.in_ok-check_object.ensures) (rw (← c.in_ok-metadata.ensures.1, c.object_record.ensures))) c.write_class.ensures

@@ -1,20 +1,25 @@
 -- `reader::decode::measure_ids` meets its contract.
 -- Assumes nothing.
-use Rattle.reader.proofs.decode.Laws.{ids_start, ids_bytes, ids_strings_lem, ids_stop, ids_turn}
+use mathlib.Core.Path.{◌∙◌}
+use native.Mathlib.Omega.{arith}
 use borrow.Author.Rules.{rules}
+use Rattle.text.proofs.ReplyLaws.{handed_on}
+use Rattle.reader.proofs.decode.Laws.{ids_start, ids_fit, ids_stop, ids_turn}
 use Rattle.reader.proofs.decode.measure_ids.Goals as goal
 
-pub loop-i-init : goal.loop-i-init
-loop-i-init c = search (ids_start, rules)
+pub loop-id-init : goal.loop-id-init
+loop-id-init c = search (ids_start, rules)
+
+pub returns-in_err-more : goal.returns-in_err-more
+returns-in_err-more c =
+    handed_on c.from_residual.result c.in_err-more.field-0.0 c.from_residual.ensures
+    ∙ ids_stop _ _ _ _ c.loop-id.invariant c.loop-id-test.true c.in_err-more.ensures
 
 pub overflow_add-bytes : goal.overflow_add-bytes
-overflow_add-bytes c = search (ids_bytes, rules)
+overflow_add-bytes c = omega (arith, ids_fit _ _ _ _ c.loop-id.invariant c.loop-id-test.true c.in_ok-more.ensures c.requires)
 
 pub overflow_add-strings : goal.overflow_add-strings
-overflow_add-strings c = search (ids_strings_lem, rules)
+overflow_add-strings c = omega (arith, ids_fit _ _ _ _ c.loop-id.invariant c.loop-id-test.true c.in_ok-more.ensures c.requires)
 
-pub returns-in-Error : goal.returns-in-Error
-returns-in-Error c = search (ids_stop, rules)
-
-pub loop-i-preserved : goal.loop-i-preserved
-loop-i-preserved c = search (ids_turn, rules)
+pub loop-id-preserved : goal.loop-id-preserved
+loop-id-preserved c = ids_turn _ _ _ _ c.loop-id.invariant c.loop-id-test.true c.in_ok-more.ensures

@@ -1,14 +1,13 @@
 -- `reader::decode::put_ids` meets its contract.
 -- Assumes nothing.
 use Rattle.reader.proofs.decode.Laws.{puts_start, puts_fits, puts_turn}
-use borrow.Author.Rules.{rules}
 use Rattle.reader.proofs.decode.put_ids.Goals as goal
 
-pub loop-i-init : goal.loop-i-init
-loop-i-init c = search (puts_start, rules)
+pub loop-id-init : goal.loop-id-init
+loop-id-init c = puts_start _ _ _ _ _ _
 
 pub put_id-at-requires : goal.put_id-at-requires
-put_id-at-requires c = search (puts_fits, rules)
+put_id-at-requires c = puts_fits _ _ _ _ _ _ c.requires c.loop-id.invariant c.loop-id-test.true
 
-pub loop-i-preserved : goal.loop-i-preserved
-loop-i-preserved c = search (puts_turn, rules)
+pub loop-id-preserved : goal.loop-id-preserved
+loop-id-preserved c = puts_turn _ _ _ _ _ _ c.requires c.loop-id.invariant c.loop-id-test.true c.put_id-at.ensures

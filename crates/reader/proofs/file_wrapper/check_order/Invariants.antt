@@ -1,12 +1,8 @@
--- What the loop of `reader::file_wrapper::check_order` keeps, and its measure.
+-- What the loop of `reader::file_wrapper::check_order` keeps.
 -- Assumes nothing.
-use Prim.Native.Nat.{◌-◌}
 use Rattle.text.proofs.ResultLaws.{Checks}
 use Rattle.reader.specs.Opening.{is_ordered}
 use Rattle.reader.proofs.file_wrapper.check_order.Given as goal
 
 abbrev pub invariant-loop-k : goal.invariant-loop-k
 invariant-loop-k l = Checks 5 (is_ordered l.blob) 1 8 l.k
-
-abbrev pub decreases-loop-k : goal.decreases-loop-k
-decreases-loop-k l = 8 - l.k

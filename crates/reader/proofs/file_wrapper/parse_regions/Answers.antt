@@ -1,17 +1,25 @@
 -- `reader::file_wrapper::parse_regions` meets its contract.
 -- Assumes nothing.
-use Rattle.reader.proofs.file_wrapper.Laws.{regions_outcomes}
+use mathlib.Core.Path.{◌∙◌}
 use borrow.Author.Rules.{rules}
+use Rattle.text.proofs.ReplyLaws.{handed_on}
+use Rattle.reader.specs.Opening.{check_regions}
 use Rattle.reader.proofs.file_wrapper.parse_regions.Goals as goal
 
 pub returns-then-pieces-names : goal.returns-then-pieces-names
-returns-then-pieces-names c = search (regions_outcomes, rules)
+unfolding check_regions
+returns-then-pieces-names c = search rules
 
-pub returns-in-Blocks-count_blocks : goal.returns-in-Blocks-count_blocks
-returns-in-Blocks-count_blocks c = search (regions_outcomes, rules)
+pub returns-in_err-saveobj_blocks : goal.returns-in_err-saveobj_blocks
+unfolding check_regions
+returns-in_err-saveobj_blocks c = handed_on _ _ c.from_residual.ensures ∙ search (c.in_err-saveobj_blocks.ensures, rules)
 
-pub returns-in-Truncated-count_blocks : goal.returns-in-Truncated-count_blocks
-returns-in-Truncated-count_blocks c = search (regions_outcomes, rules)
+pub returns-in_err-normalobj_blocks : goal.returns-in_err-normalobj_blocks
+unfolding check_regions
+returns-in_err-normalobj_blocks c =
+    handed_on _ _ c.from_residual-in_err-normalobj_blocks.ensures
+    ∙ search (c.in_ok-saveobj_blocks.ensures, c.in_err-normalobj_blocks.ensures, rules)
 
-pub returns-in-Truncated : goal.returns-in-Truncated
-returns-in-Truncated c = search (regions_outcomes, rules)
+pub returns : goal.returns
+unfolding check_regions
+returns c = search (c.in_ok-saveobj_blocks.ensures, c.in_ok-normalobj_blocks.ensures, rules)

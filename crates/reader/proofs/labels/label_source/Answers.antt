@@ -1,31 +1,39 @@
 -- `reader::labels::label_source` meets its contract.
 -- Assumes nothing.
-use Rattle.reader.proofs.labels.Laws.{source_outside, source_zero, heap_inside, source_empty, source_blob, source_ill_formed, source_refused}
-use Rattle.reader.proofs.names.Pieces.{has_piece}
-use Rattle.reader.proofs.NameLaws.{has_name}
+use mathlib.Core.Path.{◌∙◌}
 use borrow.Author.Rules.{rules}
+use Rattle.text.proofs.ReplyLaws.{handed_on}
+use Rattle.reader.specs.Labels.{label_of}
+use Rattle.reader.proofs.labels.Laws.{source_zero, heap_inside, source_ill_formed, source_empty, source_blob}
+use Rattle.reader.proofs.names.Pieces.{has_piece}
+use Rattle.reader.proofs.NameLaws.{parsed, has_name, declared}
 use Rattle.reader.proofs.labels.label_source.Goals as goal
 
-pub returns-then-w-index : goal.returns-then-w-index
-returns-then-w-index c = search (source_outside, rules)
+pub returns-in_err-metadata : goal.returns-in_err-metadata
+unfolding label_of
+returns-in_err-metadata c = handed_on _ _ c.from_residual.ensures ∙ rw (← c.in_err-metadata.ensures.0)
+
+pub returns-in_err-check_name : goal.returns-in_err-check_name
+unfolding label_of
+returns-in_err-check_name c =
+    handed_on _ _ c.from_residual-in_err-check_name.ensures ∙ rw (← c.in_ok-metadata.ensures.0, ← c.in_err-check_name.ensures)
 
 pub returns-then-index-eq0 : goal.returns-then-index-eq0
-returns-then-index-eq0 c = search (source_zero, rules)
+returns-then-index-eq0 c = search (source_zero, c.in_ok-metadata.ensures.0, rules)
 
 pub piece_start-start-requires : goal.piece_start-start-requires
-piece_start-start-requires c = search (has_piece, has_name, rules)
+piece_start-start-requires c =
+    let m = c.in_ok-metadata.metadata in
+    has_piece (has_name (parsed c.in_ok-metadata.ensures.0) (declared m.w _ c.in_ok-check_name.ensures)) c.if-index-eq0.false
 
 pub slice_bounds-terminated_length-end : goal.slice_bounds-terminated_length-end
-slice_bounds-terminated_length-end c = search (heap_inside, rules)
+slice_bounds-terminated_length-end c = heap_inside _ c.args.placeholder.now c.args.index c.in_ok-metadata.ensures.0
+
+pub returns-in_default : goal.returns-in_default
+returns-in_default c = search (source_ill_formed, c.in_ok-metadata.ensures.0, c.in_ok-check_name.ensures, c.in_default.ensures, rules)
 
 pub returns-then-length-eq0 : goal.returns-then-length-eq0
-returns-then-length-eq0 c = search (source_empty, rules)
+returns-then-length-eq0 c = search (source_empty, c.in_ok-metadata.ensures.0, c.in_ok-check_name.ensures, c.in-Some.ensures, rules)
 
-pub returns-else-length-eq0 : goal.returns-else-length-eq0
-returns-else-length-eq0 c = search (source_blob, rules)
-
-pub returns-in-IllFormed : goal.returns-in-IllFormed
-returns-in-IllFormed c = search (source_ill_formed, rules)
-
-pub returns-in-Error : goal.returns-in-Error
-returns-in-Error c = search (source_refused, rules)
+pub returns : goal.returns
+returns c = search (source_blob, c.in_ok-metadata.ensures.0, c.in_ok-check_name.ensures, c.in-Some.ensures, rules)

@@ -1,24 +1,13 @@
 -- `reader::listing::start_listing` meets its contract.
 -- Assumes nothing.
-use Rattle.reader.proofs.NameLaws.{parsed}
-use Rattle.reader.proofs.listing.Laws.{start_short, start_few, start_passed, start_failed, start_refused}
-use borrow.Author.Rules.{rules}
+use Rattle.reader.proofs.listing.Laws.{start_short, start_passed}
 use Rattle.reader.proofs.listing.start_listing.Goals as goal
 
-pub check_objects-requires : goal.check_objects-requires
-check_objects-requires c = search (parsed, rules)
-
 pub returns-then-room-count : goal.returns-then-room-count
-returns-then-room-count c = search (start_short, rules)
+returns-then-room-count c =
+    rw c.in_ok-metadata.ensures.1 at (start_short c.in_ok-metadata.metadata c.in_ok-falls.ensures _ c.saturating_sub-count.ensures c.if-room-count.true)
 
-pub plan_for-requires : goal.plan_for-requires
-plan_for-requires c = search (start_few, rules)
-
-pub returns-else-room-count : goal.returns-else-room-count
-returns-else-room-count c = search (start_passed, rules)
-
-pub returns-in-Failed : goal.returns-in-Failed
-returns-in-Failed c = search (start_failed, rules)
-
-pub returns-in-Error : goal.returns-in-Error
-returns-in-Error c = search (start_refused, rules)
+pub returns : goal.returns
+returns c =
+    rw c.in_ok-metadata.ensures.1
+    at (start_passed c.in_ok-metadata.metadata c.in_ok-falls.ensures _ c.saturating_sub-count.ensures c.if-room-count.false c.plan.result c.plan.ensures)

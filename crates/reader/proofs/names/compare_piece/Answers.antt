@@ -10,11 +10,11 @@ loop-n-init c = search (agree_start, rules)
 pub returns-then-at-end : goal.returns-then-at-end
 returns-then-at-end c = search (agree_short, rules)
 
-pub returns-then-byte-eq0 : goal.returns-then-byte-eq0
-returns-then-byte-eq0 c = search (agree_zero, rules)
+pub returns-then-blob-at-eq0 : goal.returns-then-blob-at-eq0
+returns-then-blob-at-eq0 c = search (agree_zero, rules)
 
-pub returns-then-byte-wanted : goal.returns-then-byte-wanted
-returns-then-byte-wanted c = search (agree_other, rules)
+pub returns-then-blob-at : goal.returns-then-blob-at
+returns-then-blob-at c = search (agree_other, rules)
 
 pub loop-n-preserved : goal.loop-n-preserved
 loop-n-preserved c = search (agree_turn, rules)

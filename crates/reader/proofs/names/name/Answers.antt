@@ -1,20 +1,22 @@
 -- `reader::names::name` meets its contract.
 -- Assumes nothing.
-use Rattle.reader.proofs.NameLaws.{name_outside, has_name, in_blob, name_written, name_refused}
-use borrow.Author.Rules.{rules}
+use Rattle.reader.specs.Queries.{name_text}
+use Rattle.reader.proofs.NameLaws.{refused, text_by, declared}
 use Rattle.reader.proofs.names.name.Goals as goal
 
-pub returns-then-w-index : goal.returns-then-w-index
-returns-then-w-index c = search (name_outside, rules)
+pub returns-in_err-metadata : goal.returns-in_err-metadata
+unfolding name_text
+returns-in_err-metadata c = refused _ _ _ _ c.from_residual.ensures (rw (← c.in_err-metadata.ensures.0))
 
-pub name_piece-piece-requires : goal.name_piece-piece-requires
-name_piece-piece-requires c = search (has_name, rules)
+pub returns-in_err-check_name : goal.returns-in_err-check_name
+unfolding name_text
+returns-in_err-check_name c =
+    refused _ _ _ _ c.from_residual-in_err-check_name.ensures (rw (← c.in_ok-metadata.ensures.0, ← c.in_err-check_name.ensures))
 
-pub write_piece-requires : goal.write_piece-requires
-write_piece-requires c = search (in_blob, rules)
+pub own_bytes-requires : goal.own_bytes-requires
+own_bytes-requires c = declared c.in_ok-metadata.metadata.w _ c.in_ok-check_name.ensures
 
-pub returns-else-w-index : goal.returns-else-w-index
-returns-else-w-index c = search (name_written, rules)
-
-pub returns-in-Error : goal.returns-in-Error
-returns-in-Error c = search (name_refused, rules)
+pub returns : goal.returns
+unfolding name_text
+returns c =
+    text_by (rw (← c.in_ok-metadata.ensures.0, ← c.in_ok-check_name.ensures) (rw (← c.in_ok-metadata.ensures.1, ← c.own_bytes.ensures.0))) c.write_shown.ensures

@@ -4,8 +4,8 @@ use Rattle.reader.proofs.replacements.Laws.{sound_none, sound_begins, sound_whol
 use borrow.Author.Rules.{rules}
 use Rattle.reader.proofs.replacements.is_sound.Goals as goal
 
-pub returns-then-w-eq0 : goal.returns-then-w-eq0
-returns-then-w-eq0 c = search (sound_none, rules)
+pub returns-then-metadata-eq0 : goal.returns-then-metadata-eq0
+returns-then-metadata-eq0 c = search (sound_none, rules)
 
 pub slice_bounds-validate-count : goal.slice_bounds-validate-count
 slice_bounds-validate-count c = search (sound_begins, rules)
@@ -13,5 +13,5 @@ slice_bounds-validate-count c = search (sound_begins, rules)
 pub slice_bounds-validate-start : goal.slice_bounds-validate-start
 slice_bounds-validate-start c = search (sound_begins, rules)
 
-pub returns-in-WellFormed : goal.returns-in-WellFormed
-returns-in-WellFormed c = search (sound_whole, rules)
+pub returns : goal.returns
+returns c = search (sound_whole, rules)

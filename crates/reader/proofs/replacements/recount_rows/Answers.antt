@@ -1,8 +1,12 @@
 -- `reader::replacements::recount_rows` meets its contract.
 -- Assumes nothing.
-use Rattle.reader.proofs.replacements.Laws.{mapping_turn}
+use Rattle.reader.proofs.replacements.Laws.{mapping_turn, mapping_last}
 use borrow.Author.Rules.{rules}
+use native.Mathlib.Omega.{arith}
 use Rattle.reader.proofs.replacements.recount_rows.Goals as goal
 
 pub loop-i-preserved : goal.loop-i-preserved
 loop-i-preserved c = search (mapping_turn, rules)
+
+pub returns : goal.returns
+returns c = mapping_last _ c.loop-i.invariant (omega arith)

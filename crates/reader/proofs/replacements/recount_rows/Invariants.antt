@@ -1,12 +1,9 @@
--- What the loop of `reader::replacements::recount_rows` keeps, and its measure.
+-- What the loop of `reader::replacements::recount_rows` keeps.
 -- Assumes nothing.
-use Prim.Native.Nat.{◌-◌}
+use Rattle.std.specs.Prelude.{map}
 use Rattle.reader.specs.Stages.Replacements.{recounted}
-use Rattle.reader.proofs.replacements.Laws.{Mapping}
+use Rattle.reader.proofs.FrontLaws.{Fronts}
 use Rattle.reader.proofs.replacements.recount_rows.Given as goal
 
 abbrev pub invariant-loop-i : goal.invariant-loop-i
-invariant-loop-i l = Mapping (recounted l.counts l.first l.end) l.count l.initial.rows l.rows l.i
-
-abbrev pub decreases-loop-i : goal.decreases-loop-i
-decreases-loop-i l = l.count - l.i
+invariant-loop-i l = Fronts (map (recounted l.counts l.chunk.first l.chunk.end) l.initial.rows) l.initial.rows l.i l.rows

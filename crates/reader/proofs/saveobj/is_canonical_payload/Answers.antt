@@ -1,29 +1,40 @@
 -- `reader::saveobj::is_canonical_payload` meets its contract.
 -- Assumes nothing.
-use Rattle.reader.proofs.saveobj.Canonical.{packed_start, packed_inside, packed_fits, canonical_spare, scan_start, scan_stop, scan_unpaired, canonical_refused, scan_last}
-use borrow.Author.Rules.{rules}
+use mathlib.Core.Path.{◌∙◌}
+use native.Mathlib.Omega.{arith}
+use Rattle.reader.proofs.saveobj.Canonical.{packed_inside, canonical_spare, canonical_refused, canonical_missing, canonical_last}
+use Rattle.reader.proofs.saveobj.Payload.{measure_checked}
 use Rattle.reader.proofs.saveobj.is_canonical_payload.Goals as goal
 
+pub returns-in_default : goal.returns-in_default
+returns-in_default c = canonical_refused _ c.in_default.ensures
+
 pub overflow_add-base : goal.overflow_add-base
-overflow_add-base c = search (packed_start, rules)
+overflow_add-base c = omega (arith, packed_inside _ c.in-Ok.ensures)
 
 pub is_packed-requires : goal.is_packed-requires
-is_packed-requires c = search (packed_inside, packed_fits, rules)
+is_packed-requires c = packed_inside _ c.in-Ok.ensures
 
 pub returns-then-not-is_packed : goal.returns-then-not-is_packed
-returns-then-not-is_packed c = search (canonical_spare, rules)
+returns-then-not-is_packed c = canonical_spare _ c.in-Ok.ensures c.is_packed.ensures c.if-not-is_packed.true
 
-pub loop-i-init : goal.loop-i-init
-loop-i-init c = search (scan_start, rules)
+pub overflow_add-base-2 : goal.overflow_add-base-2
+overflow_add-base-2 c = omega (arith, packed_inside _ c.in-Ok.ensures)
 
-pub returns-then-payload-base : goal.returns-then-payload-base
-returns-then-payload-base c = search (scan_stop, rules)
+pub offset_bounds-payload-base : goal.offset_bounds-payload-base
+offset_bounds-payload-base c = omega (arith, packed_inside _ c.in-Ok.ensures)
 
-pub returns-in-Strings : goal.returns-in-Strings
-returns-in-Strings c = scan_last c.loop-i.invariant c.measure_strings.ensures c.loop-i-test.false c.in-Strings.is (λ k. (c.type_inv.payload k).fits)
+pub slice_bounds-contains-end : goal.slice_bounds-contains-end
+slice_bounds-contains-end c = (packed_inside _ c.in-Ok.ensures).0
 
-pub returns-in-Error-measure_strings : goal.returns-in-Error-measure_strings
-returns-in-Error-measure_strings c = search (scan_unpaired, rules)
+pub returns-then-contains : goal.returns-then-contains
+returns-then-contains c = canonical_missing _ c.in-Ok.ensures c.is_packed.ensures c.contains.ensures.value c.if-contains.true
 
-pub returns-in-Error : goal.returns-in-Error
-returns-in-Error c = search (canonical_refused, rules)
+pub measure_strings-requires : goal.measure_strings-requires
+measure_strings-requires c = measure_checked _ c.in-Ok.ensures
+
+pub returns : goal.returns
+returns c =
+    c.is_ok.ensures.value
+    ∙ canonical_last _ c.in-Ok.ensures c.is_packed.ensures c.contains.ensures.value c.if-not-is_packed.false c.if-contains.false (λ k. (c.type_inv.payload k).fits) _
+    c.measure_strings.ensures

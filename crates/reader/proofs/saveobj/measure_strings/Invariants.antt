@@ -1,4 +1,4 @@
--- What the loops of `reader::saveobj::measure_strings` keep, and their measures.
+-- What the loops of `reader::saveobj::measure_strings` keep, and the inner one's measure.
 -- Assumes nothing.
 use Prim.Native.Nat.{◌-◌}
 use Rattle.reader.proofs.saveobj.Strings.{Measuring, Within}
@@ -12,6 +12,3 @@ invariant-loop-i l = Measuring l.payload l.base l.n l.bytes l.k l.i
 
 abbrev pub decreases-loop-k : goal.decreases-loop-k
 decreases-loop-k l = l.end - l.k
-
-abbrev pub decreases-loop-i : goal.decreases-loop-i
-decreases-loop-i l = l.n - l.i

@@ -1,17 +1,13 @@
 -- `reader::saveobj::put_payload` meets its contract.
 -- Assumes nothing.
-use Rattle.reader.proofs.saveobj.Payload.{put_fits, put_index, put_writes, put_never}
-use borrow.Author.Rules.{rules}
+use Rattle.reader.proofs.saveobj.Payload.{put_fits, put_writes, put_never}
 use Rattle.reader.proofs.saveobj.put_payload.Goals as goal
 
-pub put_strings-byte-requires : goal.put_strings-byte-requires
-put_strings-byte-requires c = search (put_fits, rules)
+pub put_strings-requires : goal.put_strings-requires
+put_strings-requires c = put_fits _ _ _ _ c.requires c.in-Ok.ensures
 
-pub overflow_add-result : goal.overflow_add-result
-overflow_add-result c = search (put_index, rules)
+pub returns-in-Ok : goal.returns-in-Ok
+returns-in-Ok c = put_writes _ _ _ _ c.requires c.in-Ok.ensures c.put_strings.ensures
 
-pub returns-in-Header : goal.returns-in-Header
-returns-in-Header c = search (put_writes, rules)
-
-pub returns-in-Error : goal.returns-in-Error
-returns-in-Error c = search (put_never, rules)
+pub returns-in-Err : goal.returns-in-Err
+returns-in-Err c = put_never _ _ _ _ c.requires c.in-Err.ensures

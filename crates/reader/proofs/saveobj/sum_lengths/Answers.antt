@@ -7,11 +7,11 @@ use Rattle.reader.proofs.saveobj.sum_lengths.Goals as goal
 pub loop-i-init : goal.loop-i-init
 loop-i-init c = search (sum_start, rules)
 
-pub returns-then-sum-count : goal.returns-then-sum-count
-returns-then-sum-count c = search (sum_stop, rules)
+pub returns-in_default : goal.returns-in_default
+returns-in_default c = sum_stop _ _ _ c.loop-i.invariant c.loop-i-test.true c.unit_count.ensures c.in_default.ensures
 
 pub loop-i-preserved : goal.loop-i-preserved
-loop-i-preserved c = search (sum_turn, rules)
+loop-i-preserved c = sum_turn _ _ _ c.loop-i.invariant c.loop-i-test.true c.unit_count.ensures c.in-Some.ensures
 
 pub returns : goal.returns
 returns c = search (sum_last, rules)

@@ -1,11 +1,7 @@
--- What the loop of `reader::saveobj::sum_lengths` keeps, and its measure.
+-- What the loop of `reader::saveobj::sum_lengths` keeps.
 -- Assumes nothing.
-use Prim.Native.Nat.{◌-◌}
 use Rattle.reader.proofs.saveobj.Lengths.{Summing}
 use Rattle.reader.proofs.saveobj.sum_lengths.Given as goal
 
 abbrev pub invariant-loop-i : goal.invariant-loop-i
 invariant-loop-i l = Summing l.payload l.base l.n l.sum l.i
-
-abbrev pub decreases-loop-i : goal.decreases-loop-i
-decreases-loop-i l = l.n - l.i

@@ -1,8 +1,8 @@
 -- `store::replace::replace_words` meets its contract.
 -- Assumes nothing.
+use native.Mathlib.Omega.{arith}
 use Rattle.store.proofs.ReplaceLaws.{words_replaced}
-use borrow.Author.Rules.{rules}
 use Rattle.store.proofs.replace.replace_words.Goals as goal
 
 pub returns : goal.returns
-returns c = search (words_replaced, rules)
+returns c = words_replaced _ _ _ _ _ _ c.requires c.copy_within.ensures.after c.put.ensures (omega arith) c.max.ensures (c.fill.ensures.after (λ y e. e))

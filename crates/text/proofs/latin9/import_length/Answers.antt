@@ -1,14 +1,13 @@
 -- `text::latin9::import_length` meets its contract.
 -- Assumes nothing.
 use Rattle.text.proofs.latin9.Import.{measured_past, measured_short, measured_fits}
-use borrow.Author.Rules.{rules}
 use Rattle.text.proofs.latin9.import_length.Goals as goal
 
-pub returns-then-bytes-more : goal.returns-then-bytes-more
-returns-then-bytes-more c = search (measured_past, rules)
+pub returns-in_default : goal.returns-in_default
+returns-in_default c = measured_past _ _ _ c.more_in.ensures c.in_default.ensures c.ranges.room.fits
 
 pub returns-then-room-n : goal.returns-then-room-n
-returns-then-room-n c = search (measured_short, rules)
+returns-then-room-n c = measured_short _ _ _ c.more_in.ensures c.in-Some.ensures c.if-room-n.true
 
 pub returns : goal.returns
-returns c = search (measured_fits, rules)
+returns c = measured_fits _ _ _ c.more_in.ensures c.in-Some.ensures.1 c.if-room-n.false

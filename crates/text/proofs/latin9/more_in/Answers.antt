@@ -8,8 +8,8 @@ use Rattle.text.proofs.latin9.more_in.Goals as goal
 pub returns-then-highest-lt128 : goal.returns-then-highest-lt128
 returns-then-highest-lt128 c = search (ascii_import, rules)
 
-pub loop-i-preserved : goal.loop-i-preserved
-loop-i-preserved c = search (measure_turn, rules)
+pub loop-byte-preserved : goal.loop-byte-preserved
+loop-byte-preserved c = search (measure_turn, rules)
 
 pub returns : goal.returns
 returns c = search (measure_last, rules)

@@ -16,14 +16,14 @@ loop-i-preserved-then-text-i-lt128 c = search (write_ascii, rules)
 pub byte_at-requires : goal.byte_at-requires
 byte_at-requires c = search (write_stands, rules)
 
-pub bounds-out-o-in-Byte : goal.bounds-out-o-in-Byte
-bounds-out-o-in-Byte c = search (write_room, rules)
+pub bounds-out-o-in-loop-i : goal.bounds-out-o-in-loop-i
+bounds-out-o-in-loop-i c = search (write_room, rules)
 
 pub loop-i-preserved : goal.loop-i-preserved
 loop-i-preserved c = search (write_byte, rules)
 
-pub returns-in-Unmappable : goal.returns-in-Unmappable
-returns-in-Unmappable c = search (write_never, rules)
+pub returns-in_default : goal.returns-in_default
+returns-in_default c = search (write_never, rules)
 
 pub returns : goal.returns
 returns c = search (write_last, rules)

@@ -5,16 +5,16 @@ use borrow.Author.Rules.{rules}
 use Rattle.text.proofs.latin9.put_import.Goals as goal
 
 pub bounds-out-o : goal.bounds-out-o
-bounds-out-o c = write_own_room _ c.loop-i.invariant (search rules) (search rules)
+bounds-out-o c = write_own_room _ c.loop-byte.invariant (search rules) (search rules)
 
-pub loop-i-preserved-then-bytes-i-lt128 : goal.loop-i-preserved-then-bytes-i-lt128
-loop-i-preserved-then-bytes-i-lt128 c = search (write_own, rules)
+pub loop-byte-preserved-then-byte-lt128 : goal.loop-byte-preserved-then-byte-lt128
+loop-byte-preserved-then-byte-lt128 c = search (write_own, rules)
 
 pub put_utf8-o-requires : goal.put_utf8-o-requires
 put_utf8-o-requires c = search (write_room, rules)
 
-pub loop-i-preserved : goal.loop-i-preserved
-loop-i-preserved c = search (write_turn, rules)
+pub loop-byte-preserved : goal.loop-byte-preserved
+loop-byte-preserved c = search (write_turn, rules)
 
 pub returns : goal.returns
 returns c = search (write_last, rules)

@@ -14,8 +14,8 @@ loop-i-smaller c = search (step_less, rules)
 pub loop-i-preserved : goal.loop-i-preserved
 loop-i-preserved c = search (write_turn, rules)
 
-pub returns-in-Unpaired : goal.returns-in-Unpaired
-returns-in-Unpaired c = search (write_never, rules)
+pub returns-in_default : goal.returns-in_default
+returns-in_default c = search (write_never, rules)
 
 pub returns : goal.returns
 returns c = search (write_last, rules)

@@ -4,5 +4,5 @@ use Rattle.text.proofs.AsciiLaws.{highest_turn}
 use borrow.Author.Rules.{rules}
 use Rattle.text.proofs.utf8.highest.Goals as goal
 
-pub loop-i-preserved : goal.loop-i-preserved
-loop-i-preserved c = search (highest_turn, rules)
+pub loop-byte-preserved : goal.loop-byte-preserved
+loop-byte-preserved c = search (highest_turn, rules)

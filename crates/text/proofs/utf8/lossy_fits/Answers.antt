@@ -7,8 +7,8 @@ use Rattle.text.proofs.utf8.lossy_fits.Goals as goal
 pub returns-then-s-room : goal.returns-then-s-room
 returns-then-s-room c = search (fits_thrice, rules)
 
-pub returns-in-Length : goal.returns-in-Length
-returns-in-Length c = search (fits_measured, rules)
+pub returns-in-Some : goal.returns-in-Some
+returns-in-Some c = search (fits_measured, rules)
 
-pub returns-in-TooLong : goal.returns-in-TooLong
-returns-in-TooLong c = search (fits_never, rules)
+pub returns-in-None : goal.returns-in-None
+returns-in-None c = search (fits_never, rules)

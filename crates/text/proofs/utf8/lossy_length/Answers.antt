@@ -4,5 +4,5 @@ use Rattle.text.proofs.utf8.Lossy.{length_kept}
 use borrow.Author.Rules.{rules}
 use Rattle.text.proofs.utf8.lossy_length.Goals as goal
 
-pub returns-in-Units : goal.returns-in-Units
-returns-in-Units c = search (length_kept, rules)
+pub returns-in-Ok : goal.returns-in-Ok
+returns-in-Ok c = search (length_kept, rules)

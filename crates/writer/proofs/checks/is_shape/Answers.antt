@@ -1,11 +1,8 @@
 -- `writer::checks::is_shape` meets its contract.
 -- Assumes nothing.
-use Rattle.writer.proofs.ShapeLaws.{shape_of, shape_overflow}
-use borrow.Author.Rules.{rules}
+use Rattle.writer.proofs.ShapeLaws.{product_test}
+use mathlib.Core.Path.{◌∙◌}
 use Rattle.writer.proofs.checks.is_shape.Goals as goal
 
-pub returns-in-Of : goal.returns-in-Of
-returns-in-Of c = search (shape_of, rules)
-
-pub returns-in-OverflowAt : goal.returns-in-OverflowAt
-returns-in-OverflowAt c = search (shape_overflow, rules)
+pub returns : goal.returns
+returns c = c.eq.ensures ∙ rw c.checked_product.ensures (product_test _ _)

@@ -1,17 +1,18 @@
 -- `writer::string_object::encode_string_saveobj_payload` meets its contract.
 -- Assumes nothing.
-use Rattle.writer.proofs.string_object.Payload.{encode_short, encode_fits, encode_written, encode_refused}
-use borrow.Author.Rules.{rules}
+use native.Mathlib.Omega.{arith}
+use Rattle.text.proofs.ReplyLaws.{writes_refused}
+use Rattle.writer.proofs.string_object.Payload.{encode_refused, encode_short, encode_fits, encode_written}
 use Rattle.writer.proofs.string_object.encode_string_saveobj_payload.Goals as goal
 
+pub returns-in_err-n : goal.returns-in_err-n
+returns-in_err-n c = writes_refused _ _ c.from_residual.result c.in_err-n.field-0.0 c.from_residual.ensures (encode_refused _ _ _ _ c.in_err-n.ensures)
+
 pub returns-then-words-n : goal.returns-then-words-n
-returns-then-words-n c = search (encode_short, rules)
+returns-then-words-n c = encode_short _ _ _ _ c.in_ok-n.ensures (omega arith) c.if-words-n.true
 
 pub put_payload-requires : goal.put_payload-requires
-put_payload-requires c = search (encode_fits, rules)
+put_payload-requires c = encode_fits _ _ _ _ c.in_ok-n.ensures c.if-words-n.false
 
-pub returns-else-words-n : goal.returns-else-words-n
-returns-else-words-n c = search (encode_written, rules)
-
-pub returns-in-Error : goal.returns-in-Error
-returns-in-Error c = search (encode_refused, rules)
+pub returns : goal.returns
+returns c = encode_written _ _ _ _ c.in_ok-n.ensures c.if-words-n.false c.put_payload.ensures

@@ -1,0 +1,11 @@
+-- `printing::input::read_full`: each read goes after the bytes that earlier ones gave.
+-- Assumes nothing.
+use Rattle.printing.proofs.ReadLaws.{read_more}
+use borrow.Author.Rules.{rules}
+use Rattle.printing.proofs.input.read_full.Goals as goal
+
+pub returns-in-Err-clause-front : goal.returns-in-Err-clause-front
+returns-in-Err-clause-front g c = search (read_more, rules)
+
+pub loop-n-preserved : goal.loop-n-preserved
+loop-n-preserved g c = search (read_more, rules)

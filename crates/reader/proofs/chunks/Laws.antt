@@ -1,0 +1,32 @@
+-- The values of a chunk of names.
+-- Assumes nothing.
+use mathlib.Core.Path.{◌≡◌, ap, ◌∙◌}
+use mathlib.Core.Bool.{Bool, true, false, cond}
+use mathlib.Core.List.{List}
+use Prim.Native.Nat.{ℕ, ◌-◌, ◌≤◌, ◌<◌}
+use native.Mathlib.Omega.{arith}
+use borrow.Author.Tests.{leb-true, ltb-true}
+use lib.Dec.{leb, ltb}
+use Rattle.std.proofs.lemmas.Option.{slice_get-get_or}
+use Rattle.std.specs.Prelude.{Some, None}
+use Rattle.text.proofs.TestLaws.{either, and_is}
+use Rattle.reader.specs.Queries.{own_bytes}
+use Rattle.reader.specs.Stages.Chunks.{is_in, in_table, FillsTable}
+use Rattle.reader.specs.declared.file_wrapper.Metadata.{Metadata}
+
+-- what is known of the indices from first up to e
+pub in_range {ℓ} : {P : Type ℓ} (first e i : ℕ) → (first ≤ i → i < e → is_in first e i ≡ true → P) → (is_in first e i ≡ false → P) → P
+in_range first e i f g =
+    either (is_in first e i)
+    (λ t. let p = and_is (leb first i) (ltb i e) t in f (leb-true first i p.0) (ltb-true i e p.1) t)
+    g
+
+-- what a chunk tells of a name
+pub in_chunk : {A : Type 0} {m : Metadata} {empty : A} {f : List ℕ → A} {first e : ℕ} {table : List A} {any : Bool} {next : ℕ}
+    → FillsTable m empty f first e table any next
+    → (i : ℕ) → in_table table first e i ≡ cond (is_in first e i) (Some (f (own_bytes m.blob.now m.w i))) None
+unfolding in_table
+in_chunk {A} {m} {empty} {f} {first} {e} {table} k i =
+    in_range first e i
+    (λ h l t. simp t (slice_get-get_or table (i - first) empty (omega (arith, k.size, k.is.size)) ∙ ap Some (k.is.is i h l)))
+    (λ t. simp t)

@@ -1,0 +1,15 @@
+-- `reader::file_wrapper::Metadata::own_bytes` meets its contract.
+-- Assumes nothing.
+use mathlib.Core.Path.{sym}
+use native.Mathlib.Omega.{arith}
+use borrow.Author.Tests.{eq-eqb}
+use Rattle.reader.specs.Names.{name_bytes}
+use Rattle.reader.proofs.NameLaws.{own_part}
+use Rattle.reader.proofs.file_wrapper.Metadata.own_bytes.Goals as goal
+
+pub returns-then-index-eq0 : goal.returns-then-index-eq0
+unfolding name_bytes
+returns-then-index-eq0 c = (sym (simp (eq-eqb _ 0 c.if-index-eq0.true)), omega arith)
+
+pub returns : goal.returns
+returns c = own_part c.args.self.opens c.requires c.if-index-eq0.false c.piece_start-start.ensures c.piece_end-end.ensures

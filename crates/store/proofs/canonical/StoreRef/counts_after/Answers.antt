@@ -1,0 +1,7 @@
+-- `store::canonical::StoreRef::counts_after` meets its contract.
+-- Assumes nothing.
+use Rattle.store.proofs.CheckLaws.{old_inside}
+use Rattle.store.proofs.canonical.StoreRef.counts_after.Goals as goal
+
+pub overflow_sub-self : goal.overflow_sub-self
+overflow_sub-self c = old_inside c.requires.store c.requires.id c.in-Replace.is c.to_usize.ensures
