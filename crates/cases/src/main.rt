@@ -133,6 +133,7 @@ fn show(rt: &impl Print, label: &str, bytes: &[u8]) -> io::Result<()> {
 }
 
 // Code units: their text in a buffer, or the refusal.
+// A frame for this and the three below would take the printing of an answer as a closure with its `requires`: no plainer for four.
 fn units(rt: &impl Print, label: &str, list: &[u16], out: &mut [u8]) -> io::Result<()> {
     print::label(rt, label)?;
     print::units(rt, list)?;

@@ -22,6 +22,7 @@ pub fn bytes(rt: &impl Print, list: &[u8], n: usize) -> io::Result<()> {
 }
 
 // Each unit as a space and four digits.
+// Beside bytes for the width, which stands in the format itself.
 pub fn units(rt: &impl Print, list: &[u16]) -> io::Result<()> {
     for unit in list {
         print!(rt; " {unit:04x}")?;

@@ -34,6 +34,7 @@ pub struct EditList<'a> {
 }
 
 // The counts of a store, and how many edits were run on it.
+// The buffers stay with the caller who lends them: there is no heap.
 #[derive(Clone, Copy, Debug, PartialEq, Eq)]
 pub struct Ran {
     pub counts: Counts,
@@ -70,6 +71,8 @@ impl<'a> EditList<'a> {
 }
 
 // Writes a reply as two numbers: the check's number and its place, 0 and 0 for none.
+// Flat, as any caller can lend them.
+// Numbers, because the replies that are lent to run_edits are flat ones.
 fn put_reply(reply: Result<Counts, MatError>, replies: &mut [u64], at: usize)
     requires { at + 1 < length replies.old }
     ensures { replies.new ≡ put replies.old at (numbers_of (reply_of (outcome reply))) }

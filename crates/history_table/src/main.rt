@@ -40,6 +40,7 @@ fn print_strings(rt: &impl Print, text: &[u8], spans: &[u64]) -> io::Result<()> 
     println!(rt)
 }
 
+// The buffers have a fixed size and are cut to what was written, here and in print_run: there is no heap.
 fn print_read(
     rt: &impl Print,
     reply: Result<DecodedSize, MatError>,
@@ -58,6 +59,7 @@ fn print_read(
 }
 
 // Zeros. The `ensures` gives only the length, so that no goal has the zeros one by one.
+// printing has the same, and is no crate that this program stands on.
 fn text_buffer() -> [u8; 4096]
     ensures { 4096 ≡ length result }
 {
@@ -102,6 +104,7 @@ fn print_objects(
 }
 
 // Writes the numbers of an edit from index at on, where they fit.
+// Flat numbers, as run_edits takes them.
 fn put_edit(ops: &mut [u64], at: usize, numbers: [u64; 8]) {
     if ops.len() < 8 {
         return;

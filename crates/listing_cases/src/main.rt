@@ -14,6 +14,7 @@ use std::io;
 use std::io::Read;
 
 // Reads the next blob and lists it, and answers whether there was one.
+// The buffer has a fixed size and is cut to the blob: there is no heap.
 fn list_next(
     rt: &(impl Print + Eprint),
     input: &mut impl Read,

@@ -1,5 +1,6 @@
 // The library's calls for C. Each answers 0 where the call is accepted, else the number of the check that does not hold (document 01's
 // question). An accepted call writes the cells of its values and keeps the cell of the place; a refused one writes the place and nothing else.
+// C passes a cell for each number and each buffer by itself, so that they are parameters here, and the contracts name them alike.
 #![tactic(auto)]
 
 ghost use Rattle.std.specs.Prelude.{◌≡◌};
@@ -49,6 +50,7 @@ fn put_error(e: MatError, place: &mut u64) -> u32
 }
 
 // Each of these writes what a reply says, its value or its place, and gives its number.
+// There is one for each number of cells that C lends: a trait would take an impl for each of them.
 fn put_length(reply: Result<usize, MatError>, length: &mut u64, place: &mut u64) -> u32
     ensures { Exports (λ x. x) (outcome reply) length.old place.old result
         length.new place.new }
@@ -124,6 +126,7 @@ fn counts_of(cells: [u64; 3]) -> Counts
     }
 }
 
+// Each call from here on is a C name with a contract of its own, also where two differ in the call that they make alone.
 #[unsafe(no_mangle)]
 pub extern "C" fn mcos_decode_utf16(
     units: &[u16],
@@ -243,6 +246,7 @@ pub extern "C" fn mcos_build_string_filewrapper_metadata(
 }
 
 // The numbers of an opened blob: names, classes, records, the blocks of both regions, the eight offsets.
+// An array, as C reads it. From is no way, for neither type is this crate's.
 fn layout_of(w: FileWrapper) -> [u64; 13]
     ensures { result ≡ layout_of w }
 {
@@ -263,6 +267,7 @@ fn layout_of(w: FileWrapper) -> [u64; 13]
     ]
 }
 
+// A match of its own, as in mcos_label, mcos_find_property and mcos_parse_opaque_metadata: no other call has these cells.
 #[unsafe(no_mangle)]
 pub extern "C" fn mcos_parse(blob: &[u8], layout: &mut [u64; 13], place: &mut u64) -> u32
     ensures { Exports layout_of (opened blob.now) layout.old place.old
@@ -295,6 +300,7 @@ pub extern "C" fn mcos_name(
 }
 
 // The cell of a part's buffer.
+// Numbers, here and below, as C reads them. From is no way, for neither type is this crate's.
 fn source_cell(source: Source) -> u64
     ensures { result ≡ source_cell source }
 {

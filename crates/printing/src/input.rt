@@ -34,6 +34,7 @@ fn read_from<R: Read>(reader: &mut R, buf: &mut [u8], from: usize) -> Result<usi
 }
 
 // Reads until buf is full or the input ends. Input can come in pieces; they stand in buf one after the other.
+// A `while`, since a step is as long as what was read.
 pub fn read_full<R: Read>(reader: &mut R, buf: &mut [u8]) -> Result<usize, ReadFailed>
     ensures most { bytes_of result ≤ length buf.new }
     ensures front { Consumes (R.remaining reader.old) (R.remaining reader.new) (take (bytes_of result) buf.new) }

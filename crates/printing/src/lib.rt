@@ -23,12 +23,6 @@ const LARGE: usize = 65536;
 // The property rows that are lent: one for each 12 bytes of a blob of 65,536.
 const ROWS: usize = 5461;
 
-fn rows_buffer() -> [[u32; ROW_WIDTH]; ROWS]
-    ensures { 5461 ≡ length result }
-{
-    [[0; ROW_WIDTH]; ROWS]
-}
-
 fn put_refusal(rt: &(impl Print + Eprint), o: &mut Output<'_>, error: MatError) {
     o.put_part(rt, LinePart::Refused(error.failure().number));
 }
@@ -79,6 +73,7 @@ fn list_named(
 }
 
 // One line: the property, or that one of its names does not fit its buffer. Both are there before either is printed.
+// The number in the row picks, as the row has it from the reader.
 fn list_property(
     rt: &(impl Print + Eprint),
     o: &mut Output<'_>,
@@ -145,9 +140,9 @@ fn list_object(
 
 // The objects 1 to records - 1.
 fn list_objects(rt: &(impl Print + Eprint), o: &mut Output<'_>, blob: &[u8], records: u32) {
-    let text: &mut [u8] = &mut buffer::<LARGE>();
-    let value: &mut [u8] = &mut buffer::<LARGE>();
-    let rows: &mut [[u32; ROW_WIDTH]] = &mut rows_buffer();
+    let text: &mut [u8] = &mut buffer::<u8, LARGE>();
+    let value: &mut [u8] = &mut buffer::<u8, LARGE>();
+    let rows: &mut [[u32; ROW_WIDTH]] = &mut buffer::<[u32; ROW_WIDTH], ROWS>();
     for id in 1..records {
         list_object(rt, o, blob, id, text, value, rows);
         if o.failed {
@@ -157,8 +152,9 @@ fn list_objects(rt: &(impl Print + Eprint), o: &mut Output<'_>, blob: &[u8], rec
 }
 
 // Prints the listing of a blob, or its refusal, and answers whether all of it was written.
+// A bool and no io::Result: the error was told on standard error when it came.
 pub fn list(rt: &(impl Print + Eprint), blob: &[u8]) -> bool {
-    let out: &mut [u8] = &mut buffer::<LARGE>();
+    let out: &mut [u8] = &mut buffer::<u8, LARGE>();
     let mut o = Output::new(out);
     match FileWrapper::parse(blob) {
         Ok(w) => {
@@ -171,7 +167,7 @@ pub fn list(rt: &(impl Print + Eprint), blob: &[u8]) -> bool {
 }
 
 fn print_too_long(rt: &(impl Print + Eprint)) {
-    let out: &mut [u8] = &mut buffer::<4096>();
+    let out: &mut [u8] = &mut buffer::<u8, 4096>();
     let mut o = Output::new(out);
     o.put_part(rt, LinePart::TooLong);
     o.finish(rt);
@@ -194,7 +190,7 @@ fn read_told(rt: &impl Eprint, reader: &mut impl Read, buf: &mut [u8]) -> Option
 // Prints the listing of the blob on standard input, of at most 65,536 bytes. A read that fails is told on standard error.
 pub fn list_input(rt: &(impl Input + Print + Eprint)) {
     let mut reader = rt.reader();
-    let blob: &mut [u8] = &mut buffer::<LARGE>();
+    let blob: &mut [u8] = &mut buffer::<u8, LARGE>();
     let Some(n) = read_told(rt, &mut reader, blob) else {
         return;
     };

@@ -1,4 +1,5 @@
 // The lines of a listing, part by part.
+// The length comes first, since 34 writes nothing: a Display tells none, and `write!` to a lent buffer would stop halfway.
 ghost use Rattle.std.specs.Prelude.{◌≡◌, ◌+◌, ◌^◌, ◌≤◌, ◌<◌, length};
 ghost use Rattle.text.specs.Buffer.{Puts};
 ghost use Rattle.text.specs.Result.{need_place};
@@ -8,6 +9,7 @@ use text::copy::copy_into;
 use text::error::MatError;
 
 // A part of a line other than a name.
+// Refused has the check's number alone, which is all that its line shows.
 #[derive(Clone, Copy, Debug, PartialEq, Eq)]
 pub enum LinePart {
     Names(u32), // names N, end of line
@@ -96,6 +98,7 @@ pub fn write_escaped(name: &[u8], out: &mut [u8]) -> Result<usize, MatError>
 }
 
 // The number of decimal digits of a value.
+// A `while`, since the value ends it.
 fn decimal_length(value: u32) -> usize
     ensures { CountsDigits value result }
 {
@@ -116,6 +119,7 @@ fn put_decimal(value: u32, out: &mut [u8], at: usize) -> usize
     let end = at + decimal_length(value);
     let mut v = value;
     let mut i = end;
+    // The value ends this walk, not the index.
     while 10 <= v {
         i -= 1;
         out[i] = (48 + v % 10) as u8;
@@ -126,6 +130,7 @@ fn put_decimal(value: u32, out: &mut [u8], at: usize) -> usize
 }
 
 // A word at the start of out.
+// Check 34 stands in each of the three: a frame for it would take the writing as a closure and its promise as a parameter.
 fn write_word(word: &[u8], out: &mut [u8]) -> Result<usize, MatError>
     ensures { WritesPart word.now out.old result out.new }
 {
@@ -151,6 +156,7 @@ fn write_numbered(start: &[u8], value: u32, end: &[u8], out: &mut [u8]) -> Resul
 }
 
 // A part of a line at the start of out.
+// Public, with a promise over the bytes of out, and by the cases of line_text: a match, and no Display.
 pub fn write_part(part: LinePart, out: &mut [u8]) -> Result<usize, MatError>
     ensures { WritesPart (line_text part) out.old result out.new }
 {

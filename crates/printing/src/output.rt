@@ -12,10 +12,10 @@ const ROOM: usize = 4096;
 const CHUNK: usize = 1365;
 
 // Zeros. The `ensures` gives only the length, so that no goal has the zeros one by one.
-pub(crate) fn buffer<const N: usize>() -> [u8; N]
+pub(crate) fn buffer<T: Copy + Default, const N: usize>() -> [T; N]
     ensures { N ≡ length result }
 {
-    [0; N]
+    [T::default(); N]
 }
 
 // Writes bytes, and answers whether all were written. Where that fails, it is told on standard error.
@@ -31,6 +31,7 @@ fn write_all(rt: &(impl Print + Eprint), bytes: &[u8]) -> bool {
 
 // A lent buffer, how many of its bytes are still to be written, and whether a write failed. After that nothing is written any more. The
 // buffer has room for every text once it is empty.
+// A flag and no Result: each put promises what the buffer holds also after a write that failed, where `?` would have returned.
 #[derive(Drop)]
 pub(crate) struct Output<'a> {
     pub(crate) out: &'a mut [u8],
@@ -92,6 +93,7 @@ impl<'a> Output<'a> {
     }
 
     // Puts a chunk of a name, as a line shows it: three bytes show a byte, so that it is never refused.
+    // The steps of put_part: a common one would take the write as a closure and its promise as a parameter, for four lines.
     fn put_chunk(&mut self, rt: &(impl Print + Eprint), chunk: &[u8])
         requires { length chunk.now ≤ 1365 }
         ensures { Adds (escaped chunk.now) self.old.out.now self.old.used self.new.out.now self.new.used }

@@ -15,10 +15,11 @@ use Rattle.std.specs.Result.{IsErrAnd}
 use Rattle.std.proofs.lemmas.List.{drop-take}
 use Rattle.text.specs.Errors.{failure_of}
 use Rattle.text.specs.Replies.{lossy_length, WritesLossy}
-use Rattle.text.specs.Result.{Result, ok, error, check_each}
+use Rattle.text.specs.Result.{Result, ok, error, check_each, overwritten}
 use Rattle.text.specs.Utf8.{lossy}
 use Rattle.text.specs.declared.error.MatError.{MatError}
 use Rattle.text.specs.declared.utf8.LossySize.{LossySize}
+use Rattle.text.proofs.BufferLaws.{length_over}
 use Rattle.text.proofs.ReplyLaws.{handed_on}
 use Rattle.text.proofs.ResultLaws.{same_value, check_passed, check_is, seq_passed, bind_passed}
 use Rattle.text.proofs.TestLaws.{either}
@@ -29,7 +30,7 @@ use Rattle.reader.specs.Names.{ShownText, shown_bytes}
 use Rattle.reader.specs.Stages.Names.{HasName, HasPieceAt, FirstPiece, IsSize}
 use Rattle.reader.specs.Opening.{declared_names, offset, is_within, is_ordered, piece_count, wrapper_of, check_regions, layout, empty_wrapper, opened}
 use Rattle.reader.specs.Stages.Opening.{Opens}
-use Rattle.reader.specs.Queries.{check_name, own_bytes}
+use Rattle.reader.specs.Queries.{check_name, into_text, own_bytes}
 use Rattle.reader.specs.Replies.{WritesText}
 use Rattle.reader.specs.declared.file_wrapper.FileWrapper.{FileWrapper}
 use Rattle.reader.proofs.blocks.Laws.{blocks_end}
@@ -131,6 +132,17 @@ shown_size s few l d e =
     let most : length (lossy s) ≤ 50331648 = omega (arith, lossy_le s) in
     let fits = lt-ltb (length (lossy s)) (2 ^ 64) (omega (arith, most)) in
     rw (e, l) (simp fits (record { bytes = refl; most = most; replaced = refl; few = omega (arith, replaced_le s) }))
+
+-- a call that writes a text keeps the buffer's length
+same_by : (m : Result ShownText) (text text' : List ℕ) → text' ≡ overwritten (λ t. t.text) (into_text m (length text)) text → length text' ≡ length text
+same_by (error e) text text' w = ap length w
+same_by (ok t) text text' w =
+    either (leb (length t.text) (length text))
+    (λ h. ap length (simp h at w) ∙ length_over t.text text (leb-true (length t.text) (length text) h))
+    (λ h. ap length (simp h at w))
+
+pub text_same : {m : Result ShownText} {text text' : List ℕ} {r : Reply LossySize MatError} → WritesText m text r text' → length text' ≡ length text
+text_same {m} {text} {text'} w = same_by m text text' w.buffer
 
 -- ---- a name
 

@@ -25,6 +25,7 @@ fn round_up(end: usize) -> usize
 
 // The number of blocks of the region from byte start up to byte end: check 7, whose place is the byte of the first count whose entries
 // leave the region.
+// A `while`, since a block tells itself where the next begins.
 pub(crate) fn count_blocks(
     blob: &[u8],
     start: usize,

@@ -61,6 +61,8 @@ pub fn check_directory(directory: &[u64], kinds: &[u8], words: usize) -> Result<
 }
 
 // A cell store whose directory passed check 13.
+// Directory and kinds stay two lists, the first of flat pairs, as document 01 has them and C lends them.
+// Kind 0 is a payload. The kinds stay bytes, as C lends them: any other number is some other cell.
 #[derive(Clone, Copy)]
 pub(crate) struct Cells<'a> {
     directory: &'a [u64],

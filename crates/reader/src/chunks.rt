@@ -1,7 +1,7 @@
 // The names of a blob, each with a value that is told by a look at it, a chunk of names at a time.
 ghost use Rattle.std.specs.Prelude.{◌≡◌, ◌+◌, ◌≤◌, ◌<◌, ℕ, List, length};
 ghost use Rattle.reader.specs.Queries.{own_bytes};
-ghost use Rattle.reader.specs.Stages.Chunks.{ToNames, Looks, in_table, FillsTable};
+ghost use Rattle.reader.specs.Stages.Chunks.{ToNames, Looks, value_in, FillsTable};
 
 use crate::file_wrapper::Metadata;
 
@@ -42,15 +42,17 @@ pub(crate) struct Chunk {
 }
 
 impl Chunk {
-    // The value of a name, where it is one of them.
-    #[tactic(auto, unfolding(crate::specs::Stages::Chunks::in_table))]
-    pub(crate) fn get<T: Copy>(self, table: &[T; CHUNK], index: usize) -> Option<T>
-        ensures { result ≡ in_table table.now self.first self.end index }
+    // The value of a name where it is one of them, else another.
+    #[tactic(auto, unfolding(crate::specs::Stages::Chunks::value_in))]
+    pub(crate) fn get_or<T: Copy>(self, table: &[T; CHUNK], index: u32, other: T) -> T
+        ensures { result ≡ value_in table.now self.first self.end index other }
     {
-        if self.first <= index && index < self.end {
-            return Some(table[index - self.first]);
+        let i = index as usize;
+        if self.first <= i && i < self.end {
+            table[i - self.first]
+        } else {
+            other
         }
-        None
     }
 }
 

@@ -3,8 +3,8 @@ ghost use Rattle.std.specs.Prelude.{◌≡◌, ◌+◌, ◌≤◌, false};
 ghost use Rattle.text.specs.Buffer.{same};
 ghost use Rattle.reader.specs.Objects.{is_stored_as, find_property, position};
 ghost use Rattle.reader.specs.Stages.Properties.{named_triples};
-ghost use Rattle.reader.specs.Stages.Chunks.{ToNames};
-ghost use Rattle.reader.specs.Stages.Find.{first_of, flagged, ScansNames};
+ghost use Rattle.reader.specs.Stages.Chunks.{ToNames, value_in};
+ghost use Rattle.reader.specs.Stages.Find.{first_of, ScansNames};
 ghost use Rattle.text.specs.Replies.{outcome};
 
 use crate::chunks::{CHUNK, Chunk, Look, Looked, read_chunk};
@@ -47,6 +47,7 @@ impl<'a> Look for Wanted<'a> {
 }
 
 // Names below name have been looked at; name begins at start; best is the first triple that has a wanted one of them.
+// CountWalk has the first two of the three: that walk finds nothing, and writes rows that are lent.
 #[derive(Clone, Copy, Debug, PartialEq, Eq)]
 struct Walk {
     name: usize,
@@ -56,14 +57,14 @@ struct Walk {
 
 impl<'a> Triples<'a> {
     // The first of limit triples whose name is a wanted one of the chunk, else limit.
-    #[tactic(auto, unfolding(crate::specs::Stages::Find::first_of, crate::specs::Stages::Find::first_index, crate::specs::Stages::Find::flagged, crate::specs::Objects::triples_from))]
+    // Limit and no Option: what is answered is the limit of the next chunk.
+    #[tactic(auto, unfolding(crate::specs::Stages::Find::first_of, crate::specs::Stages::Find::first_index, crate::specs::Objects::triples_from))]
     fn first_in(self, limit: usize, flags: &[bool; CHUNK], chunk: Chunk) -> usize
         requires { limit ≤ self.count }
-        ensures { result ≡ first_of (flagged flags.now chunk.first chunk.end) self.entry limit }
+        ensures { result ≡ first_of (λ x. value_in flags.now chunk.first chunk.end x false) self.entry limit }
     {
         for k in 0..limit {
-            let index = self.get(k).name_idx as usize;
-            if chunk.get(flags, index).unwrap_or(false) {
+            if chunk.get_or(flags, self.get(k).name_idx, false) {
                 return k;
             }
         }
@@ -92,6 +93,8 @@ impl<'a> Triples<'a> {
     }
 
     // The position of the first triple whose name is stored as wanted. The name heap is walked once.
+    // A chunk tells where the next begins, so that no range counts them. count_replaced walks so too: a common walk would take
+    // the turn as a closure and its promise as a parameter, for the two lines of a loop.
     pub(crate) fn first_named(self, wanted: &[u8]) -> Option<usize>
         ensures { let m = self.entry.metadata in
             result ≡ position (is_stored_as m.blob.now m.w wanted.now) (named_triples self.entry) }

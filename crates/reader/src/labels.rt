@@ -16,6 +16,7 @@ pub enum Source {
 }
 
 // A part of a lent buffer: which buffer, its first byte there, and how many bytes.
+// Numbers and no slice, for C takes three cells. Both buffers are parameters of a label, since it lies in either.
 #[derive(Clone, Copy, Debug, PartialEq, Eq)]
 pub struct Part {
     pub source: Source,

@@ -1,4 +1,6 @@
 // Reading string objects: the metadata blob, opaque metadata, and saveobj payloads.
+// There is no heap: texts, spans and rows go to the start of buffers that are lent, and their numbers are answered.
+// What several functions promise alike has one name in specs. It is said of each one's own result, so that no type could carry it.
 #![tactic(auto)]
 
 mod blocks;

@@ -16,6 +16,7 @@ use crate::records::{Triple, read_u32};
 use text::error::MatError;
 
 // The block ids that were met last in each region, and whether one was below the one before it.
+// One walk checks each object and gathers this: is_sorted would take a walk more for each region.
 #[derive(Clone, Copy, Debug, PartialEq, Eq)]
 struct Order {
     saveobj: u32,
@@ -70,6 +71,7 @@ fn first_entry(plan: Plan, region: Region) -> usize
 }
 
 // A block of a region by its number, and the byte of its count.
+// Numbers and no slice: records name a block by its number, and an entry of the index is a byte.
 #[derive(Clone, Copy, Debug, PartialEq, Eq)]
 pub(crate) struct Cursor {
     pub(crate) block: usize,
@@ -106,6 +108,7 @@ fn fill_region(plan: Plan, region: Region, index: &mut [u32; ENTRIES])
 }
 
 // Where the walk of each property region stands.
+// Two fields by name, here and in Order: an array by Region would take a proof of the bound at each index.
 #[derive(Clone, Copy, Debug, PartialEq, Eq)]
 pub(crate) struct Cursors {
     pub(crate) saveobj: Cursor,

@@ -43,6 +43,7 @@ struct Skipped {
 }
 
 // Passes whole blocks from start on, as long as they hold no more than most zero bytes.
+// A `while`: where it stops is answered, and a loop over chunks would count that beside them.
 fn skip_blocks(blob: &[u8], start: usize, end: usize, most: usize) -> Skipped
     requires { (start ≤ end) × (end ≤ length blob.now) }
     ensures { Skips blob.now start end most result }
@@ -75,6 +76,7 @@ pub(crate) fn count_pieces(blob: &[u8], start: usize, end: usize) -> usize
 }
 
 // Where piece index, from 1, of the bytes from byte 40 up to end begins.
+// A `while`: the zero bytes end it, and not the index. A `for` would return from within and need an end that never comes.
 pub(crate) fn piece_start(blob: &[u8], end: usize, index: usize) -> usize
     requires { HasPiece blob.now end index }
     ensures { HasPieceAt blob.now end index result }

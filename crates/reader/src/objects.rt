@@ -11,6 +11,7 @@ use crate::records::{ObjectRecord, Triple, read_u32};
 use text::error::MatError;
 
 // An object: its class, the region of its property block (0 saved, 1 normal), the block's id there, and how many properties it has.
+// Four numbers, as C reads the row.
 #[repr(C)]
 #[derive(Clone, Copy, Debug, PartialEq, Eq)]
 pub struct ObjectRow {
@@ -63,6 +64,7 @@ pub(crate) fn block_of(object: ObjectRecord) -> BlockId
     }
 }
 
+// The fields of FileWrapper are public, and so no array by Region.
 pub(crate) fn region_start(w: FileWrapper, region: Region) -> usize
     ensures { result ≡ region_start w (number_of region) }
 {
@@ -108,6 +110,7 @@ pub(crate) fn object_row(object: ObjectRecord, block: BlockId, property_count: u
 }
 
 // An object, and the byte of its block's count (0 where it has no block).
+// 0 and no Option: its triples, none of them, are then read like those of any other.
 #[derive(Clone, Copy, Debug, PartialEq, Eq)]
 pub(crate) struct LocatedObject {
     pub(crate) row: ObjectRow,

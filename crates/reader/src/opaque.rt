@@ -11,6 +11,7 @@ use writer::string_object::MCOS_MAGIC_NUMBER;
 pub const MAX_OPAQUE_WORDS: usize = 65536;
 
 // Where the object ids begin, how many they are, and the class id after them.
+// Numbers and no slice, as C takes them.
 #[derive(Clone, Copy, Debug, PartialEq, Eq)]
 pub struct OpaqueMetadata {
     pub first_id: usize,

@@ -5,6 +5,7 @@ ghost use Rattle.reader.specs.Stages.Plan.{FitsIndex};
 use crate::file_wrapper::Metadata;
 
 // The entries of the index of blocks, which serves both regions.
+// One array for the two: memory is fixed, and either region can have nearly all of the blocks.
 pub(crate) const ENTRIES: usize = 8192;
 
 // An opened blob, and how its blocks are indexed: every stride-th block of a region has its byte in the index, those of the saved region

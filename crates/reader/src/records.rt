@@ -1,4 +1,5 @@
 // The records of a metadata blob: an entry's size, and reading one at an offset.
+// An offset is the format's own number, and blocks are rounded from the blob's start: so bytes are named by their place in it.
 ghost use Rattle.std.specs.Prelude.{◌≡◌, ◌+◌, ◌≤◌, ◌<◌, length};
 ghost use Rattle.reader.specs.Wire.{u32_at, class_entry_at, object_record_at, triple_at};
 
@@ -12,6 +13,7 @@ pub(crate) fn read_u32(blob: &[u8], at: usize) -> u32
 }
 
 // A class: the name indices of its namespace and its name.
+// This and the two records below have their size and their reading each: nothing reads records of any kind, as a trait would let it.
 #[derive(Clone, Copy, Debug, PartialEq, Eq)]
 pub(crate) struct ClassEntry {
     pub(crate) namespace_idx: u32,
@@ -58,6 +60,7 @@ impl ObjectRecord {
 }
 
 // A property: its name index, how its value is meant, and the value.
+// The kind stays the format's number: check 12 names the one that it refuses, and a row hands it to C.
 #[derive(Clone, Copy, Debug, PartialEq, Eq)]
 pub(crate) struct Triple {
     pub(crate) name_idx: u32,

@@ -2,7 +2,7 @@
 ghost use Rattle.std.specs.Prelude.{◌≡◌, ◌++◌, map, ◌+◌, ◌≤◌, length, take, drop};
 ghost use Rattle.reader.specs.Names.{shown_bytes};
 ghost use Rattle.reader.specs.Stages.Chunks.{ToNames};
-ghost use Rattle.reader.specs.Stages.Replacements.{count_in, recounted, CountsChunk, SoundNames, CountsRows};
+ghost use Rattle.reader.specs.Stages.Replacements.{recounted, CountsChunk, SoundNames, CountsRows};
 
 use crate::chunks::{CHUNK, Chunk, Look, Looked, read_chunk};
 use crate::file_wrapper::{HEADER, Metadata};
@@ -41,13 +41,13 @@ impl Look for Replaced {
 }
 
 // A row with the counts of the names of a chunk put in: that of its name, and that of its value where it is a name.
-#[tactic(auto, unfolding(crate::specs::Stages::Replacements::count_in, crate::specs::Stages::Replacements::recounted))]
+#[tactic(auto, unfolding(crate::specs::Stages::Replacements::recounted))]
 fn recount(row: [u32; ROW_WIDTH], counts: &[u32; CHUNK], chunk: Chunk) -> [u32; ROW_WIDTH]
     ensures { result ≡ recounted counts.now chunk.first chunk.end row }
 {
-    let name = chunk.get(counts, row[0] as usize).unwrap_or(row[3]);
+    let name = chunk.get_or(counts, row[0], row[3]);
     let value = if row[1] == 0 {
-        chunk.get(counts, row[2] as usize).unwrap_or(row[4])
+        chunk.get_or(counts, row[2], row[4])
     } else {
         row[4]
     };
@@ -105,6 +105,7 @@ fn is_sound(metadata: Metadata) -> bool
 
 // Puts the counts of their names into the first count rows, which hold none. Names are sound as a rule, and then nothing is counted; else
 // the heap is walked once, and the rows are gone over once for each chunk of names in which there is a replacement character.
+// A `while`, since a chunk tells where the next begins.
 pub(crate) fn count_replaced(metadata: Metadata, count: usize, rows: &mut [[u32; ROW_WIDTH]])
     requires { count ≤ length rows.old }
     ensures { CountsRows metadata.entry count rows.old rows.new }

@@ -115,6 +115,7 @@ pub struct DecodedSize {
 
 // Check 29 for n strings that passed 28, and what they need: the bytes of their text and their number, or the first string with a surrogate
 // that has no partner. A missing string has no units, and counts in the index. No other walk over a payload looks at pairing.
+// The inner loop is a `while`, since a step takes one unit or two.
 fn measure_strings(payload: &[u64], base: usize, n: usize) -> Result<DecodedSize, MatError>
     requires { UnitsChecked payload.now base n }
     ensures { outcome result ≡ map_result size_of (check_pairing payload.now base n) }
@@ -230,6 +231,7 @@ pub(crate) fn check_outputs(size: DecodedSize, text: usize, spans: usize) -> Res
 }
 
 // Writes the strings of a saveobj payload to the start of text, in UTF-8 and end to end, and their spans to the start of spans.
+// Text and spans are two outputs, and the spans flat pairs, as C lends them: so it is in both other ways of decoding.
 pub fn decode_string_saveobj(
     payload: &[u64],
     text: &mut [u8],

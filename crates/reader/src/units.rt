@@ -18,6 +18,7 @@ pub(crate) fn unit_at(words: &[u64], first: usize, k: usize) -> u16
 }
 
 // Whether a unit is a surrogate.
+// Measuring asks for this and for is_pair alone: text's unit_step computes the value too.
 pub(crate) fn is_surrogate(unit: u16) -> bool
     ensures { result ≡ is_surrogate unit }
 {
@@ -74,6 +75,7 @@ fn put_pair(high: u16, low: u16, out: &mut [u8], at: usize) -> usize
 
 // Writes the text of the n units from unit k on into out from index at on, and returns the index after it. They were measured, so that
 // the bytes fit, and a surrogate is the first of a pair.
+// text's decode_utf16 takes a slice of units, which there is no memory to unpack here. A `while`, since a step takes one unit or two.
 pub(crate) fn put_text(
     words: &[u64],
     first: usize,

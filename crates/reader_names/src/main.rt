@@ -19,6 +19,7 @@ fn print_refusal(rt: &impl Print, e: MatError) -> io::Result<()> {
 }
 
 // The buffer of a label, and the label.
+// A match and no Display, which would take a type of this program's own for one use.
 fn print_label<'a>(
     rt: &impl Print,
     blob: &'a [u8],
@@ -49,6 +50,7 @@ fn print_labels<'a>(
     print_label(rt, blob, placeholder, names)
 }
 
+// Buffers of a fixed size, cut to what is read or written: there is no heap.
 fn print_repaired(rt: &(impl Input + Print)) -> io::Result<()> {
     let name: &mut [u8] = &mut [0u8; 4096];
     let n = read_full(&mut rt.reader(), name)?;

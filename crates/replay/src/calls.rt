@@ -47,6 +47,7 @@ pub fn says_bytes(
 }
 
 // The same of one that writes rows.
+// Beside says_bytes for the space, which stands before bytes and in rows, and for another type with Display.
 fn says_rows<T: AsSlice<u32> + Copy + Default + PartialEq>(
     fields: Fields<'_>,
     reply: Result<usize, MatError>,

@@ -3,6 +3,7 @@ ghost use Rattle.std.specs.Prelude.{◌≤◌, length};
 
 use writer::string_object::build_string_filewrapper_metadata;
 
+// No from_str_radix, which takes capital letters and a sign as well: they are unreadable here.
 fn digit(byte: u8) -> Option<u8> {
     match byte {
         b'0'..=b'9' => Some(byte - b'0'),

@@ -14,6 +14,7 @@ use text::error::MatError;
 use writer::string_object::is_string_filewrapper_metadata;
 
 // A store that is only read.
+// The directory is flat pairs, as document 01 has it and C lends it: it is read by index here, and written so in append and replace.
 #[derive(Clone, Copy)]
 pub(crate) struct StoreRef<'a> {
     pub(crate) counts: Counts,

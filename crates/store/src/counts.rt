@@ -8,13 +8,10 @@ use crate::append::append_at;
 use crate::array::StringArray;
 use crate::replace::replace_at;
 use text::error::MatError;
-
-// The bytes of a metadata blob for no objects, and those of one object more.
-pub const BLOB_BASE: u64 = 144;
-
-pub const BLOB_STEP: u64 = 48;
+pub use writer::string_object::{BLOB_BASE, BLOB_STEP};
 
 // How many objects, bytes of the blob and words a store has.
+// They stand beside the buffers, which C lends with more room than is counted: there is no heap for vectors.
 #[derive(Clone, Copy, Debug, PartialEq, Eq)]
 pub struct Counts {
     pub objects: u64,

@@ -3,6 +3,7 @@ ghost use Rattle.std.specs.Prelude.{◌≡◌};
 ghost use Rattle.text.specs.Errors.{failure_of};
 
 // The first check of a call that does not hold, with its place. Question N of documents 01 and 02 is the Nth kind.
+// The place is a number in each, as C reads it: a kind that has none says 0, and NotStringObject 0 or 1 by its reason.
 #[derive(Clone, Copy, Debug, PartialEq, Eq)]
 pub enum MatError {
     BlobTooLong(u64),
@@ -44,12 +45,14 @@ pub enum MatError {
 }
 
 // The number of a check and its place, as the documents count them.
+// Numbers, because C and the recorded lines are told by them; the library itself goes by MatError.
 #[derive(Clone, Copy, Debug, PartialEq, Eq)]
 pub struct Failure {
     pub number: u32,
     pub place: u64,
 }
 
+// One arm a kind: a kind carries its place, so that no cast tells its number.
 impl From<MatError> for Failure {
     ghost from_gives = { λ e f. f ≡ failure_of e };
 

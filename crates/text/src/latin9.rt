@@ -28,6 +28,7 @@ fn point_in(points: &[u16], byte: u8) -> u32
 }
 
 // Whether the byte with this number has another code point.
+// A match, here and in byte_of, and no search of the table, of which a function that names it has a copy made.
 fn gave_way(value: u32) -> bool
     ensures { result ≡ not (eqb (code_point value) value) }
 {
@@ -72,6 +73,7 @@ fn byte_at(text: &[u8], at: usize, size: usize) -> Option<u8>
 }
 
 // The number of bytes that a text is exported to, which is that of its characters, or the refusal by 30 or 36.
+// A `while`, here and in put_export, since a step is as long as its sequence.
 fn export_length(text: &[u8]) -> Result<usize, MatError>
     ensures { outcome result ≡ map_result length (latin9_bytes text.now) }
 {
@@ -175,6 +177,7 @@ fn more_in(bytes: &[u8]) -> usize
 }
 
 // The length of the text of bytes for an output of so many bytes, or the refusal by 34. The length itself may not fit 64 bits.
+// The place of 34 is a number, as C reads it: then the largest.
 fn import_length(bytes: &[u8], room: usize) -> Result<usize, MatError>
     ensures { outcome result ≡ map_result length (import_latin9 bytes.now room) }
 {

@@ -53,6 +53,7 @@ fn step_at(units: &[u16], i: usize) -> Option<Scalar>
 
 // The length of the text of code units; they have none where a surrogate has no partner. A unit gives at most three bytes, and a slice has
 // fewer than 2^63, so the length fits.
+// A `while`, here and in put_text, since a step takes one unit or two.
 fn text_length(units: &[u16]) -> Option<usize>
     ensures { result ≡ option_map length (text_of units.now) }
 {

@@ -17,6 +17,7 @@ struct Range {
 }
 
 // The length of a well-formed sequence by its first byte: its leading ones, none for a sequence of one byte. 0: it starts none.
+// 0 and no Option: has_length is public and asks for this number, 0 as well.
 fn sequence_length(lead: u8) -> u32
     ensures { result ≡ sequence_length lead }
 {
@@ -75,6 +76,7 @@ fn has(s: &[u8], i: usize, low: u8, high: u8) -> bool
 }
 
 // What decoding at a position finds. The definitions of other crates name its cases.
+// Three named cases: an Option of a Result would tell them apart by place alone.
 #[derive(Clone, Copy, Debug, PartialEq, Eq)]
 pub enum Step {
     // A well-formed sequence: its scalar value, and the position past it.
@@ -253,6 +255,7 @@ pub(crate) fn utf8_size(value: u32) -> usize
 }
 
 // The number of bytes of a scalar value, 0 for a number that is none.
+// 0 is a count here, that of what put_scalar writes, and no mark.
 pub fn utf8_len(value: u32) -> usize
     ensures { (result ≡ length (encoded utf8 value)) × (result ≤ 4) }
 {
@@ -265,6 +268,7 @@ pub fn utf8_len(value: u32) -> usize
 
 // Writes the bytes of a scalar value into out from index at where they fit, and returns the index after them. A number that is no
 // scalar value, and one whose bytes do not fit, writes nothing.
+// It cannot fail and answers an index, as its public promise says: no Option.
 pub fn put_scalar(value: u32, out: &mut [u8], at: usize) -> usize
     ensures { Places out.old at (encoded utf8 value) result out.new }
 {
@@ -317,6 +321,8 @@ pub struct Utf8Error {
 
 // The number of UTF-16 code units of a well-formed text. A sequence has one, and one of four bytes two: no scalar value is computed. A text
 // of ASCII alone is not decoded.
+// A `while`, here and below, since a step is as long as its sequence. whole_length is the step that the walks share: what they add and
+// where they stop differs, and an iterator would save the index alone.
 pub fn count_units(text: &[u8]) -> Result<usize, Utf8Error>
     ensures { CountsUnits text.now result }
 {
@@ -458,6 +464,7 @@ fn lossy_fits(s: &[u8], room: usize) -> bool
 
 // Writes the repaired text of s into out from index at on where all of it fits, and returns the index after it. One that does not fit
 // writes nothing.
+// It cannot fail and answers an index, as its public promise says: no Option.
 pub fn put_lossy(s: &[u8], out: &mut [u8], at: usize) -> usize
     ensures { Places out.old at (lossy s.now) result out.new }
 {
@@ -496,6 +503,7 @@ fn put_repaired(s: &[u8], out: &mut [u8], at: usize) -> usize
 
 // Writes the repaired text of s, in which each maximal ill-formed part is EF BF BD, to the start of out, or nothing where out is too
 // short for all of it. A text in which nothing is replaced is its own repaired text.
+// The place of 34 is a number, as C reads it: the largest for a length that does not fit 64 bits.
 pub fn write_lossy(s: &[u8], out: &mut [u8]) -> Result<LossySize, MatError>
     ensures { WritesLossy s.now out.old result out.new }
 {
@@ -525,6 +533,7 @@ fn has_scalar(s: &[u8], at: usize, value: u32) -> bool
 }
 
 // Whether the repaired text of s is exactly text.
+// A walk over both: there is no heap for the repaired text to stand in, so that == cannot compare it.
 pub fn is_lossy(s: &[u8], text: &[u8]) -> bool
     ensures { result ≡ same (lossy s.now) text.now }
 {

@@ -86,6 +86,7 @@ impl Packer<'_> {
     }
 
     // Pushes the units of a text that was measured, so that each sequence in it is well-formed.
+    // A `while`, since a step is as long as its sequence.
     fn push_text(&mut self, text: &[u8])
         requires { Packable text.now self.old }
         ensures kept { self.new.words.ghost_name ≡ self.old.words.ghost_name }
@@ -117,6 +118,7 @@ impl Packer<'_> {
 }
 
 // A scalar value of a text, and the index after its bytes.
+// text's Step has the same beside two cases that a measured text has not.
 #[derive(Clone, Copy, Debug, PartialEq, Eq)]
 pub(crate) struct Sequence {
     value: u32,
@@ -124,6 +126,7 @@ pub(crate) struct Sequence {
 }
 
 // The sequence of two bytes or more at index i of a well-formed text. Its first byte tells its length, and no later one is tested.
+// text's `value_at` has these sums, but asks that the sequence is whole, which no call from another crate may be asked.
 fn sequence_at(text: &[u8], i: usize) -> Sequence
     requires { SequenceAt text.now i }
     ensures { step_at text.now i ≡ Scalar result.value result.next }

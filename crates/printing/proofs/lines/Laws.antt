@@ -274,6 +274,13 @@ text_puts t out h {r} w =
     accepted (Ok n) e = let z : n ≡ length t = same_value e in omega arith
     accepted (Err m) e = let z : ◌≡◌ {A = ℕ} 0 1 = cc in absurd (omega arith)
 
+pub text_never : (t out : List ℕ) → length t ≤ length out → {e : MatError} {out' : List ℕ} → WritesPart t out (Err e) out' → {n : ℕ} → Puts out 0 t n out'
+text_never t out h {e} w =
+    let f : leb (length t) (length out) ≡ true = le-leb (length t) (length out) h in
+    let k : outcome {A = ℕ} (Err e) ≡ ok (length t) = simp f at w.reply in
+    let z : ◌≡◌ {A = ℕ} 0 1 = cc in
+    absurd (omega arith)
+
 -- a part that is told by its variant
 pub part_is : {x p : LinePart} → x ≡ p → {out out' : List ℕ} {r : Reply ℕ MatError} → WritesPart (line_text p) out r out' → WritesPart (line_text x) out r out'
 part_is e t = rw e t

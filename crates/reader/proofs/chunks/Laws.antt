@@ -1,17 +1,16 @@
 -- The values of a chunk of names.
 -- Assumes nothing.
-use mathlib.Core.Path.{◌≡◌, ap, ◌∙◌}
+use mathlib.Core.Path.{◌≡◌, ◌∙◌}
 use mathlib.Core.Bool.{Bool, true, false, cond}
 use mathlib.Core.List.{List}
 use Prim.Native.Nat.{ℕ, ◌-◌, ◌≤◌, ◌<◌}
 use native.Mathlib.Omega.{arith}
 use borrow.Author.Tests.{leb-true, ltb-true}
 use lib.Dec.{leb, ltb}
-use Rattle.std.proofs.lemmas.Option.{slice_get-get_or}
-use Rattle.std.specs.Prelude.{Some, None}
+use Rattle.std.proofs.lemmas.Option.{slice_get-get_or, get_or_from_slice_get}
 use Rattle.text.proofs.TestLaws.{either, and_is}
 use Rattle.reader.specs.Queries.{own_bytes}
-use Rattle.reader.specs.Stages.Chunks.{is_in, in_table, FillsTable}
+use Rattle.reader.specs.Stages.Chunks.{is_in, value_in, FillsTable}
 use Rattle.reader.specs.declared.file_wrapper.Metadata.{Metadata}
 
 -- what is known of the indices from first up to e
@@ -24,9 +23,9 @@ in_range first e i f g =
 -- what a chunk tells of a name
 pub in_chunk : {A : Type 0} {m : Metadata} {empty : A} {f : List ℕ → A} {first e : ℕ} {table : List A} {any : Bool} {next : ℕ}
     → FillsTable m empty f first e table any next
-    → (i : ℕ) → in_table table first e i ≡ cond (is_in first e i) (Some (f (own_bytes m.blob.now m.w i))) None
-unfolding in_table
-in_chunk {A} {m} {empty} {f} {first} {e} {table} k i =
+    → (i : ℕ) (other : A) → value_in table first e i other ≡ cond (is_in first e i) (f (own_bytes m.blob.now m.w i)) other
+unfolding value_in
+in_chunk {A} {m} {empty} {f} {first} {e} {table} k i other =
     in_range first e i
-    (λ h l t. simp t (slice_get-get_or table (i - first) empty (omega (arith, k.size, k.is.size)) ∙ ap Some (k.is.is i h l)))
+    (λ h l t. simp t (get_or_from_slice_get table (i - first) _ other (slice_get-get_or table (i - first) empty (omega (arith, k.size, k.is.size))) ∙ k.is.is i h l))
     (λ t. simp t)

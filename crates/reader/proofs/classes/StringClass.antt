@@ -53,3 +53,12 @@ module _ (b : List ℕ) (w : FileWrapper) (e : ClassEntry) {u : Unit {0}} (d : o
       rw (← d)
       (simp (eq-eqb e.namespace_idx 0 z)
       (ap (λ (s : Bool). check 16 s 0) (rw s at l ∙ compared name string_name ∙ rw n (sym (ascii_where_stored b w e.name_idx string_name (omega arith))))))
+
+  -- by the test's outcome
+  pub string_found : e.namespace_idx ≡ 0 → {name wanted : List ℕ} → name ≡ own_bytes b w e.name_idx → wanted ≡ string_name → true ≡ pointwise eqb name wanted
+      → ok tt ≡ check_string_class (entry_text b w e)
+  string_found z n s l = string_plain z n s l
+
+  pub string_other : e.namespace_idx ≡ 0 → {name wanted : List ℕ} → name ≡ own_bytes b w e.name_idx → wanted ≡ string_name → false ≡ pointwise eqb name wanted
+      → error (record { number = 16; place = 0 }) ≡ check_string_class (entry_text b w e)
+  string_other z n s l = string_plain z n s l

@@ -17,8 +17,8 @@ use Rattle.text.proofs.TestLaws.{either, equal_or}
 use Rattle.reader.specs.Stages.Names.{heap_pieces, ComparesPiece, PieceBegins}
 use Rattle.reader.specs.Objects.{triples_from, check_triple, check_triples, position, is_stored_as}
 use Rattle.reader.specs.Stages.Properties.{named_triples}
-use Rattle.reader.specs.Stages.Chunks.{is_in, ToNames, Looks, FillsTable}
-use Rattle.reader.specs.Stages.Find.{first_index, first_of, flagged, stored_in, ScansNames}
+use Rattle.reader.specs.Stages.Chunks.{is_in, value_in, ToNames, Looks, FillsTable}
+use Rattle.reader.specs.Stages.Find.{first_index, first_of, stored_in, ScansNames}
 use Rattle.reader.specs.Queries.{own_bytes}
 use Rattle.reader.specs.Wire.{triple_at}
 use Rattle.reader.specs.declared.file_wrapper.Metadata.{Metadata}
@@ -138,9 +138,9 @@ in_none {first} {e} h y = either (leb first y) (λ t. simp (t, le-ltb y e (omega
 module _ (ts : Triples) (from : Walk) (wanted : List ℕ) {e : ℕ} {flags : List Bool} {any : Bool} {next : ℕ}
     (k : FillsTable ts.metadata false (λ name. same name wanted) from.name e flags any next) where
   -- the flags are those of the names that are stored as wanted
-  flags_are : (x : ℕ) → flagged flags from.name e x ≡ stored_in ts.metadata wanted from.name e x
-  unfolding flagged stored_in
-  flags_are x = rw (in_chunk k x) (either (is_in from.name e x) (λ t. simp t) (λ t. simp t))
+  flags_are : (x : ℕ) → value_in flags from.name e x false ≡ stored_in ts.metadata wanted from.name e x
+  unfolding stored_in
+  flags_are x = rw (in_chunk k x false) (either (is_in from.name e x) (λ t. simp t) (λ t. simp t))
 
   flags_none : any ≡ false → (x : ℕ) → stored_in ts.metadata wanted from.name e x ≡ false
   unfolding stored_in
@@ -149,7 +149,7 @@ module _ (ts : Triples) (from : Walk) (wanted : List ℕ) {e : ℕ} {flags : Lis
   advances : {best : ℕ} → best ≡ first_of (stored_in ts.metadata wanted from.name e) ts from.best → ScansNames ts wanted from (record { name = e; start = next; best = best })
   advances z = record { more = k.more; few = k.few; heap = k.is.heap; is = z }
 
-  pub chunk_some : {c : ℕ} → c ≡ from.name → {best : ℕ} → best ≡ first_of (flagged flags c e) ts from.best
+  pub chunk_some : {c : ℕ} → c ≡ from.name → {best : ℕ} → best ≡ first_of (λ x. value_in flags c e x false) ts from.best
       → ScansNames ts wanted from (record { name = e; start = next; best = best })
   chunk_some is z = advances (rw is at z ∙ ap (λ (p : ℕ → Bool). first_of p ts from.best) (fun_ext flags_are))
 

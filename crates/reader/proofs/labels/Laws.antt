@@ -3,6 +3,7 @@
 use mathlib.Core.Path.{◌≡◌, refl, sym, ap, ap₂, ◌∙◌, subst}
 use mathlib.Core.Bool.{false}
 use mathlib.Core.List.{List, []}
+use Rattle.std.specs.Borrow.{Bor}
 use Rattle.std.specs.Prelude.{Some, None}
 use Prim.Native.Nat.{ℕ, zero, suc, ◌+◌, ◌-◌, ◌≤◌}
 use native.Mathlib.Omega.{arith}
@@ -18,7 +19,7 @@ use Rattle.text.proofs.ResultLaws.{same_value, or_error_passed, check_passed, ch
 use Rattle.text.proofs.utf8.Terminated.{terminated_is, terminated_not}
 use Rattle.text.proofs.TestLaws.{either}
 use Rattle.text.proofs.Utf8Laws.{lossy_same, scalars8_empty}
-use Rattle.reader.specs.Labels.{placeholder_part, name_part, check_well_formed, label_of}
+use Rattle.reader.specs.Labels.{IsPart, IsLabel, placeholder_part, name_part, check_well_formed, label_of, buffer_of}
 use Rattle.reader.specs.Names.{pieces, heap_of, name_bytes, length_with_zeros, name_start, sound_text}
 use Rattle.reader.specs.Stages.Names.{HasName, HasPieceAt}
 use Rattle.reader.specs.Opening.{opened}
@@ -246,3 +247,11 @@ module _ (b placeholder : List ℕ) (i : ℕ) {p : Part} (e : ok p ≡ label_of 
       by : (s : Source) → p.source ≡ s → p.start + p.length ≤ length b + length placeholder
       by source.Blob s = omega (arith, blob_fits s)
       by source.Placeholder s = omega (arith, placeholder_fits s)
+
+-- one law for the parts of both buffers
+pub part_given :
+    (blob placeholder : Bor (List ℕ)) (i : ℕ) {p : Part} → ok p ≡ label_of blob.now placeholder.now i → {s : Source} → p.source ≡ s → {r : Bor (List ℕ)}
+    → IsPart p.start (p.start + p.length - p.start) (buffer_of s blob placeholder) r → IsLabel blob placeholder i r
+part_given blob placeholder i {p} e {s} is {r} w =
+    let z : p.start + p.length - p.start ≡ p.length = omega arith in
+    rw (← e, is) (rw z at w)

@@ -22,9 +22,9 @@ use Rattle.text.proofs.TestLaws.{either}
 use Rattle.text.proofs.utf8.Lossy.{valid_scalars}
 use Rattle.reader.specs.Names.{heap_of, shown_bytes}
 use Rattle.reader.specs.Objects.{check_triple, check_triples, row_of, replaced_of}
-use Rattle.reader.specs.Stages.Chunks.{ToNames, Looks, FillsTable}
+use Rattle.reader.specs.Stages.Chunks.{ToNames, value_in, Looks, FillsTable}
 use Rattle.reader.specs.Stages.Names.{heap_pieces, FirstPiece, PieceBegins, IsSize}
-use Rattle.reader.specs.Stages.Replacements.{no_count, count_below, count_in, recounted, CountsChunk, SoundNames, CountsRows}
+use Rattle.reader.specs.Stages.Replacements.{no_count, count_below, recounted, CountsChunk, SoundNames, CountsRows}
 use Rattle.reader.specs.declared.file_wrapper.FileWrapper.{FileWrapper}
 use Rattle.reader.specs.declared.file_wrapper.Metadata.{Metadata}
 use Rattle.reader.specs.declared.records.Triple.{Triple}
@@ -60,12 +60,12 @@ rows_all : (f g : ℕ → ℕ) → ((i : ℕ) → f i ≡ g i) → (ts : List Tr
 rows_all f g h ts = ap (λ (c : ℕ → ℕ). map (row_of c) ts) (fun_ext h)
 
 -- the counts of the names from first up to e put into a row
-recount_row : (counts : List ℕ) (first e : ℕ) (f : ℕ → ℕ) (t : Triple) → recounted counts first e (row_of f t) ≡ row_of (λ i. count_in counts first e i (f i)) t
+recount_row : (counts : List ℕ) (first e : ℕ) (f : ℕ → ℕ) (t : Triple) → recounted counts first e (row_of f t) ≡ row_of (λ i. value_in counts first e i (f i)) t
 unfolding recounted
 recount_row counts first e f t = either (eqb t.field_type 0) (λ z. simp z) (λ z. simp z)
 
 recount_all : (counts : List ℕ) (first e : ℕ) (f : ℕ → ℕ) (ts : List Triple)
-    → map (recounted counts first e) (map (row_of f) ts) ≡ map (row_of (λ i. count_in counts first e i (f i))) ts
+    → map (recounted counts first e) (map (row_of f) ts) ≡ map (row_of (λ i. value_in counts first e i (f i))) ts
 recount_all counts first e f [] = refl
 recount_all counts first e f (t ∷ ts) = ap₂ ◌∷◌ (recount_row counts first e f t) (recount_all counts first e f ts)
 
@@ -110,10 +110,10 @@ map_length f n rs h = simp (length-append, length-map, length-take, length-drop)
 -- ---- a chunk of names
 
 module _ {m : Metadata} {first e : ℕ} {counts : List ℕ} {any : Bool} {next : ℕ} (k : FillsTable m 0 (λ name. (shown_bytes name).replaced) first e counts any next) where
-  counts_next : (i : ℕ) → count_in counts first e i (count_below m first i) ≡ count_below m e i
-  unfolding count_in count_below
+  counts_next : (i : ℕ) → value_in counts first e i (count_below m first i) ≡ count_below m e i
+  unfolding count_below
   counts_next i =
-      rw (in_chunk k i)
+      rw (in_chunk k i (count_below m first i))
       (either (ltb i first)
       (λ t. simp (t, lt-leb first i (ltb-true i first t), lt-ltb i e (omega (arith, ltb-true i first t, k.more))))
       (λ t. let l = le-leb first i (ltb-false i first t) in either (ltb i e) (λ u. simp (t, u, l)) (λ u. simp (t, u, l))))
@@ -141,7 +141,7 @@ module _ {m : Metadata} {from : CountWalk} {e : ℕ} {counts : List ℕ} {any : 
             let s : length (map (row_of f) ts) ≡ n = length-map ts (row_of f) ∙ l in
             let front : take n rows ≡ map (row_of f) ts = ap (take n) q ∙ take_at (map (row_of f) ts) d n s in
             let rest : drop n rows ≡ d = ap (drop n) q ∙ drop_at (map (row_of f) ts) d n s in
-            is ∙ rw (front, rest, recount_all counts from.name e f ts) (ap (λ (x : List (List ℕ)). x ++ d) (rows_all (λ i. count_in counts from.name e i (f i)) (count_below m e) (counts_next k) ts));
+            is ∙ rw (front, rest, recount_all counts from.name e f ts) (ap (λ (x : List (List ℕ)). x ++ d) (rows_all (λ i. value_in counts from.name e i (f i)) (count_below m e) (counts_next k) ts));
       }
 
   pub chunk_sound : any ≡ false → CountsChunk m n from (record { name = e; start = next }) rows rows

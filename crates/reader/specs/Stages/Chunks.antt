@@ -1,7 +1,6 @@
 -- What the stages that look at names a chunk at a time promise each other.
 -- Assumes nothing.
-use Rattle.std.specs.List.{slice_get}
-use Rattle.std.specs.Prelude.{ℕ, ◌-◌, ◌+◌, ◌≤◌, ◌<◌, ◌≡◌, Bool, cond, ◌&&◌, false, List, leb, ltb, get_or, length, Option, None}
+use Rattle.std.specs.Prelude.{ℕ, ◌-◌, ◌+◌, ◌≤◌, ◌<◌, ◌≡◌, Bool, cond, ◌&&◌, false, List, leb, ltb, get_or, length}
 use Rattle.reader.specs.Queries.{own_bytes}
 use Rattle.reader.specs.Stages.Names.{PieceBegins}
 use Rattle.reader.specs.declared.chunks.Looked.{Looked}
@@ -11,9 +10,9 @@ use Rattle.reader.specs.declared.file_wrapper.Metadata.{Metadata}
 abbrev pub is_in : ℕ → ℕ → ℕ → Bool
 is_in first end x = leb first x && ltb x end
 
--- the value of a name from first up to end by a table, none for the others
-unfoldable pub in_table : {A : Type 0} → List A → ℕ → ℕ → ℕ → Option A
-in_table table first end x = cond (is_in first end x) (slice_get table (x - first)) None
+-- the value of a name from first up to end by a table, another for the others
+unfoldable pub value_in : {A : Type 0} → List A → ℕ → ℕ → ℕ → A → A
+value_in table first end x other = cond (is_in first end x) (get_or table (x - first) other) other
 
 -- names first up to end are declared, no more than a chunk has, and the first of them begins at start
 pub record ToNames (m : Metadata) (first end start : ℕ) : Type 0 where

@@ -1,11 +1,10 @@
 -- What the stages of finding a property promise each other.
 -- Assumes nothing.
-use Rattle.std.specs.Option.{unwrap_or}
-use Rattle.std.specs.Prelude.{ℕ, suc, ◌+◌, ◌≤◌, ◌<◌, ◌≡◌, Bool, cond, ◌&&◌, false, List, [], ◌∷◌}
+use Rattle.std.specs.Prelude.{ℕ, suc, ◌+◌, ◌≤◌, ◌<◌, ◌≡◌, Bool, cond, ◌&&◌, List, [], ◌∷◌}
 use Rattle.text.specs.Buffer.{same}
 use Rattle.reader.specs.Objects.{triples_from}
 use Rattle.reader.specs.Queries.{own_bytes}
-use Rattle.reader.specs.Stages.Chunks.{is_in, in_table}
+use Rattle.reader.specs.Stages.Chunks.{is_in}
 use Rattle.reader.specs.Stages.Names.{PieceBegins}
 use Rattle.reader.specs.declared.file_wrapper.Metadata.{Metadata}
 use Rattle.reader.specs.declared.find.Walk.{Walk}
@@ -20,10 +19,6 @@ first_index p (x ∷ xs) = cond (p x) 0 (suc (first_index p xs))
 -- the same for the first n of an object's triples, and a test of their name indices
 unfoldable pub first_of : (ℕ → Bool) → Triples → ℕ → ℕ
 first_of p ts n = first_index (λ (t : Triple). p t.name_idx) (triples_from ts.metadata.blob.now ts.at n)
-
--- a flag for each name index from first up to end
-unfoldable pub flagged : List Bool → ℕ → ℕ → ℕ → Bool
-flagged flags first end x = unwrap_or (in_table flags first end x) false
 
 -- a name index from first up to end whose name is stored as wanted
 unfoldable pub stored_in : Metadata → List ℕ → ℕ → ℕ → ℕ → Bool

@@ -1,10 +1,9 @@
 -- What the stages that count the replacement characters of names promise each other (document 02, P5).
 -- Assumes nothing.
-use Rattle.std.specs.Option.{unwrap_or}
 use Rattle.std.specs.Prelude.{ℕ, ◌+◌, ◌≤◌, ◌<◌, ◌≡◌, Bool, true, false, cond, List, [], ◌∷◌, ◌++◌, map, eqb, ltb, length, get_or}
 use Rattle.text.specs.Result.{ok}
 use Rattle.reader.specs.Objects.{check_triples, row_of, replaced_of}
-use Rattle.reader.specs.Stages.Chunks.{in_table}
+use Rattle.reader.specs.Stages.Chunks.{value_in}
 use Rattle.reader.specs.Stages.Names.{PieceBegins}
 use Rattle.reader.specs.declared.file_wrapper.Metadata.{Metadata}
 use Rattle.reader.specs.declared.records.Triple.{Triple}
@@ -18,15 +17,11 @@ no_count i = 0
 unfoldable pub count_below : Metadata → ℕ → ℕ → ℕ
 count_below m end i = cond (ltb i end) (replaced_of m.blob.now m.w i) 0
 
--- the count of a name from first up to end by a table, and old for the others
-unfoldable pub count_in : List ℕ → ℕ → ℕ → ℕ → ℕ → ℕ
-count_in counts first end i old = unwrap_or (in_table counts first end i) old
-
 -- a row with the counts of the names from first up to end put in
 unfoldable pub recounted : List ℕ → ℕ → ℕ → List ℕ → List ℕ
 recounted counts first end row =
-    get_or row 0 0 ∷ get_or row 1 0 ∷ get_or row 2 0 ∷ count_in counts first end (get_or row 0 0) (get_or row 3 0)
-    ∷ cond (eqb (get_or row 1 0) 0) (count_in counts first end (get_or row 2 0) (get_or row 4 0)) (get_or row 4 0) ∷ []
+    get_or row 0 0 ∷ get_or row 1 0 ∷ get_or row 2 0 ∷ value_in counts first end (get_or row 0 0) (get_or row 3 0)
+    ∷ cond (eqb (get_or row 1 0) 0) (value_in counts first end (get_or row 2 0) (get_or row 4 0)) (get_or row 4 0) ∷ []
 
 -- more names have been counted, and n rows that had the counts of those before have theirs too
 pub record CountsChunk (m : Metadata) (n : ℕ) (from to : CountWalk) (rows rows' : List (List ℕ)) : Type 0 where
