@@ -4,6 +4,7 @@
 
 mod print;
 
+use print::{Bytes, Units};
 use reader::file_wrapper::FileWrapper;
 use std::io;
 
@@ -115,16 +116,15 @@ fn of_names(rt: &impl Print) -> io::Result<()> {
 
 // A text: its repaired text and how many parts of it were replaced, and the position of the first ill-formed part.
 fn show(rt: &impl Print, label: &str, bytes: &[u8]) -> io::Result<()> {
-    print::label(rt, label)?;
-    print::bytes(rt, bytes, bytes.len())?;
+    print!(rt; "{label}:{}", Bytes(bytes))?;
     let mut out = [0u8; 64];
     match text::utf8::write_lossy(bytes, &mut out) {
-        Ok(size) => {
-            print!(rt; " ->")?;
-            print::bytes(rt, &out, size.bytes)?;
-            print!(rt; ", replaced {}", size.replaced)?;
-        }
-        Err(e) => print::refusal(rt, e)?,
+        Ok(size) => print!(rt;
+            " ->{}, replaced {}",
+            Bytes(&out[..size.bytes]),
+            size.replaced
+        )?,
+        Err(e) => print!(rt; " {e}")?,
     }
     match text::utf8::validate(bytes) {
         Ok(()) => println!(rt; ", well-formed"),
@@ -133,51 +133,39 @@ fn show(rt: &impl Print, label: &str, bytes: &[u8]) -> io::Result<()> {
 }
 
 // Code units: their text in a buffer, or the refusal.
-// A frame for this and the three below would take the printing of an answer as a closure with its `requires`: no plainer for four.
 fn units(rt: &impl Print, label: &str, list: &[u16], out: &mut [u8]) -> io::Result<()> {
-    print::label(rt, label)?;
-    print::units(rt, list)?;
+    print!(rt; "{label}:{}", Units(list))?;
     match text::utf16::decode_utf16(list, out) {
-        Ok(n) => {
-            print!(rt; " ->")?;
-            print::bytes(rt, out, n)?;
-        }
-        Err(e) => print::refusal(rt, e)?,
+        Ok(n) => println!(rt; " ->{}", Bytes(&out[..n])),
+        Err(e) => println!(rt; " {e}"),
     }
-    println!(rt)
 }
 
 // The metadata blob for a number of objects in a buffer: its length, or the refusal.
 fn build(rt: &impl Print, label: &str, objects: u64, out: &mut [u8]) -> io::Result<()> {
-    print::label(rt, label)?;
-    print!(rt; " {objects}")?;
     match writer::string_object::build_string_filewrapper_metadata(objects, out) {
-        Ok(n) => print!(rt; " -> bytes {n}")?,
-        Err(e) => print::refusal(rt, e)?,
+        Ok(n) => println!(rt; "{label}: {objects} -> bytes {n}"),
+        Err(e) => println!(rt; "{label}: {objects} {e}"),
     }
-    println!(rt)
 }
 
 // A blob: the names that it declares, or the refusal.
 fn open(rt: &impl Print, label: &str, blob: &[u8]) -> io::Result<()> {
-    print::label(rt, label)?;
     match FileWrapper::parse(blob) {
-        Ok(w) => print!(rt; " names {}", w.names)?,
-        Err(e) => print::refusal(rt, e)?,
+        Ok(w) => println!(rt; "{label}: names {}", w.names),
+        Err(e) => println!(rt; "{label}: {e}"),
     }
-    println!(rt)
 }
 
 // A name of the blob: its text and the replacement characters that were put into it, or the refusal.
 fn resolve(rt: &impl Print, label: &str, index: u32) -> io::Result<()> {
-    print::label(rt, label)?;
     let mut out = [0u8; 64];
     match reader::names::name(&NAMES, index, &mut out) {
-        Ok(size) => {
-            print::bytes(rt, &out, size.bytes)?;
-            print!(rt; ", replaced {}", size.replaced)?;
-        }
-        Err(e) => print::refusal(rt, e)?,
+        Ok(size) => println!(rt;
+            "{label}:{}, replaced {}",
+            Bytes(&out[..size.bytes]),
+            size.replaced
+        ),
+        Err(e) => println!(rt; "{label}: {e}"),
     }
-    println!(rt)
 }

@@ -1,31 +1,29 @@
-// Hexadecimal on standard output.
-use std::io;
-use text::error::MatError;
+// Bytes and code units in hexadecimal.
+use std::fmt::{self, Display, Formatter, Write};
 
-// A label and a colon.
-pub fn label(rt: &impl Print, text: &str) -> io::Result<()> {
-    print!(rt; "{text}:")
-}
+// Each byte as a space and two digits.
+#[derive(Clone, Copy)]
+pub struct Bytes<'a>(pub &'a [u8]);
 
-// A refusal's number and place.
-pub fn refusal(rt: &impl Print, e: MatError) -> io::Result<()> {
-    let f = e.failure();
-    print!(rt; " refused {} {}", f.number, f.place)
-}
-
-// Each of the first n bytes as a space and two digits.
-pub fn bytes(rt: &impl Print, list: &[u8], n: usize) -> io::Result<()> {
-    for byte in list.iter().take(n) {
-        print!(rt; " {byte:02x}")?;
+impl Display for Bytes<'_> {
+    fn fmt<W: Write>(&self, f: &mut Formatter<W>) -> fmt::Result {
+        for byte in self.0 {
+            write!(f, " {byte:02x}")?;
+        }
+        Ok(())
     }
-    Ok(())
 }
 
 // Each unit as a space and four digits.
-// Beside bytes for the width, which stands in the format itself.
-pub fn units(rt: &impl Print, list: &[u16]) -> io::Result<()> {
-    for unit in list {
-        print!(rt; " {unit:04x}")?;
+// Beside Bytes for the width, which stands in the format itself.
+#[derive(Clone, Copy)]
+pub struct Units<'a>(pub &'a [u16]);
+
+impl Display for Units<'_> {
+    fn fmt<W: Write>(&self, f: &mut Formatter<W>) -> fmt::Result {
+        for unit in self.0 {
+            write!(f, " {unit:04x}")?;
+        }
+        Ok(())
     }
-    Ok(())
 }

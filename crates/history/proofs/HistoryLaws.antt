@@ -27,7 +27,8 @@ use Rattle.store.specs.Replies.{store_with}
 use Rattle.store.proofs.ReplyLaws.{err_is}
 use Rattle.store.proofs.EditLaws.{edits_agree}
 use Rattle.history.specs.History.{part, edit_of, edit_at, edits_from, edits_in, numbers_of, numbers, Ends, Runs}
-use Rattle.history.specs.Stages.{IsEmpty, RunsEdit}
+use Rattle.history.specs.Stages.{IsEmpty, KeepsBuffers, RunsEdit}
+use Rattle.history.specs.declared.StoreMut.{StoreMut}
 use Rattle.history.specs.declared.Ran.{Ran}
 
 -- ---- one edit
@@ -47,6 +48,9 @@ module _ (ops dims text spans : List ℕ) (i : ℕ) {d t p : List ℕ}
       rw (k, ed, et, ep)
 
 -- ---- the loop
+
+pub keeps_on : {s t u : StoreMut} → KeepsBuffers s t → KeepsBuffers t u → KeepsBuffers s u
+keeps_on k l = record { blob = l.blob ∙ k.blob; directory = l.directory ∙ k.directory; kinds = l.kinds ∙ k.kinds; words = l.words ∙ k.words }
 
 two_numbers : (r : Result (Unit {0})) → length (numbers_of r) ≡ 2
 two_numbers (ok t) = refl
@@ -171,9 +175,10 @@ module _ (blob : List ℕ) {blob' : List ℕ} where
         let w = file_wrapper 0 in
         rw built.1 (record { is = rw (take_at w (drop (length w) blob) 144 (length_file_wrapper 0), ← length_file_wrapper 0) })
 
+    -- b, d, k and w are what the lent buffers hold after the run
     pub run_done : {es : List Edit} {replies : List ℕ} {ran : Ran} {b' d' k' w' replies' : List ℕ} → Ends (store_of 0 144 0 blob' directory kinds words) es replies ran b' d' k' w' replies'
-        → Runs blob directory kinds words es replies (Ok ran) b' d' k' w' replies'
-    run_done l = record { reply = sym built.0; leaves = rw built.1 at l }
+        → {b d k w : List ℕ} → b ≡ b' → d ≡ d' → k ≡ k' → w ≡ w' → Runs blob directory kinds words es replies (Ok ran) b d k w replies'
+    run_done l e f g h = rw (e, f, g, h) (record { reply = sym built.0; leaves = rw built.1 at l })
 
   pub run_refused : (f : MatError) → error (failure_of f) ≡ map_result length (build_metadata 0 (length blob)) → blob' ≡ overwritten (λ x. x) (build_metadata 0 (length blob)) blob
       → (directory kinds words : List ℕ) (es : List Edit) (replies : List ℕ) (r : Reply Ran MatError) → IsErr r × IsErrAnd r (λ y. y ≡ f)

@@ -5,10 +5,8 @@ ghost use Rattle.std.specs.Prelude.{◌≡◌, ◌+◌, ◌*◌, ◌<◌, length
 ghost use Rattle.text.specs.Buffer.{put};
 ghost use Rattle.text.specs.Replies.{outcome};
 ghost use Rattle.store.specs.Edits.{reply_of};
-ghost use Rattle.store.specs.Replies.{store_with, edit_in};
-ghost use Rattle.store.specs.Store.{store_of};
+ghost use Rattle.store.specs.Replies.{edit_in};
 ghost use Rattle.history.specs.History.{part, edit_at, edits_in, numbers_of, Ends, Runs};
-ghost use Rattle.history.specs.Stages.{IsEmpty, RunsEdit};
 
 use store::array::StringArray;
 use store::counts::Counts;
@@ -81,66 +79,72 @@ fn put_reply(reply: Result<Counts, MatError>, replies: &mut [u64], at: usize)
         Ok(_) => (0, 0),
         Err(e) => {
             let failure = e.failure();
-            (failure.number as u64, failure.place)
+            (u64::from(failure.number), failure.place)
         }
     };
     replies[at] = number;
     replies[at + 1] = place;
 }
 
-// Makes edit i of the list, writes its reply, and answers the counts after it.
-fn run_edit(
+// A store in the lent buffers, which edits write.
+#[derive(Drop)]
+struct StoreMut<'a> {
     counts: Counts,
-    blob: &mut [u8],
-    directory: &mut [u64],
-    kinds: &mut [u8],
-    words: &mut [u64],
-    edits: EditList<'_>,
-    replies: &mut [u64],
-    i: usize,
-) -> Counts
-    requires ops { 8 * i + 7 < length edits.ops.now }
-    requires replies { 2 * i + 1 < length replies.old }
-    ensures { let s = store_with counts blob.old directory.old kinds.old words.old in
-        let t = store_with result blob.new directory.new kinds.new words.new in
-        let l = edits.entry in
-        RunsEdit s (edit_at l.ops.now l.dims.now l.text.now l.spans.now i) replies.old i t replies.new }
-{
-    let (edit, array) = edits.edit(i);
-    let reply = edit_at(counts, blob, directory, kinds, words, edit, array);
-    put_reply(reply, replies, REPLY_WIDTH * i);
-    reply.unwrap_or(counts)
+    blob: &'a mut [u8],
+    directory: &'a mut [u64],
+    kinds: &'a mut [u8],
+    words: &'a mut [u64],
 }
 
-// Runs the edits on the empty store, each on what the last one left.
-fn run_all(
-    blob: &mut [u8],
-    directory: &mut [u64],
-    kinds: &mut [u8],
-    words: &mut [u64],
-    edits: EditList<'_>,
-    replies: &mut [u64],
-) -> Ran
-    requires { IsEmpty (store_of 0 144 0 blob.old directory.old kinds.old words.old) }
-    ensures { let s = store_of 0 144 0 blob.old directory.old kinds.old words.old in
-        let l = edits.entry in
-        let es = edits_in l.ops.now l.dims.now l.text.now l.spans.now (length replies.old) in
-        Ends s es replies.old result blob.new directory.new kinds.new words.new replies.new }
-{
-    let n = (edits.ops.len() / EDIT_WIDTH).min(replies.len() / REPLY_WIDTH);
-    let mut counts = Counts::EMPTY;
-    for i in 0..n {
-        counts = run_edit(counts, blob, directory, kinds, words, edits, replies, i);
+impl StoreMut<'_> {
+    ghost use Rattle.history.specs.Stages.{store_in, IsEmpty, KeepsBuffers, RunsEdit};
+    ghost use Rattle.history.specs.declared.Ran.{Ran};
+
+    // Makes edit i of the list, and writes its reply.
+    fn run_edit(&mut self, edits: EditList<'_>, replies: &mut [u64], i: usize)
+        requires ops { 8 * i + 7 < length edits.ops.now }
+        requires replies { 2 * i + 1 < length replies.old }
+        ensures kept { KeepsBuffers self.old self.new }
+        ensures runs { let l = edits.entry in
+            let e = edit_at l.ops.now l.dims.now l.text.now l.spans.now i in
+            RunsEdit (store_in self.old) e replies.old i (store_in self.new) replies.new }
+    {
+        let (edit, array) = edits.edit(i);
+        let reply = edit_at(
+            self.counts,
+            self.blob,
+            self.directory,
+            self.kinds,
+            self.words,
+            edit,
+            array,
+        );
+        put_reply(reply, replies, REPLY_WIDTH * i);
+        self.counts = reply.unwrap_or(self.counts);
     }
-    Ran {
-        counts,
-        edits: n as u64,
+
+    // Runs the edits, each on what the last one left, and answers how many.
+    fn run_all(&mut self, edits: EditList<'_>, replies: &mut [u64]) -> u64
+        requires { IsEmpty (store_in self.old) }
+        ensures kept { KeepsBuffers self.old self.new }
+        ensures ends { let l = edits.entry in
+            let es = edits_in l.ops.now l.dims.now l.text.now l.spans.now (length replies.old) in
+            let s = self.new in
+            let r : Ran = record { counts = s.counts; edits = result } in
+            Ends (store_in self.old) es replies.old r s.blob.now s.directory.now s.kinds.now s.words.now replies.new }
+    {
+        let n = (edits.ops.len() / EDIT_WIDTH).min(replies.len() / REPLY_WIDTH);
+        for i in 0..n {
+            self.run_edit(edits, replies, i);
+        }
+        n as u64
     }
 }
 
 // Runs a list of edits on an empty store in the four buffers. The reply of edit i is two numbers of replies from 2 * i on: the check's
 // number and place, 0 and 0 for none. As many edits are run as ops holds and as replies has room for. The error says that the blob cannot
 // hold the empty store.
+// The buffers are parameters by themselves, as any caller lends them, and as `edit_at` takes them.
 pub fn run_edits(
     blob: &mut [u8],
     directory: &mut [u64],
@@ -155,5 +159,16 @@ pub fn run_edits(
         blob.new directory.new kinds.new words.new replies.new }
 {
     build_string_filewrapper_metadata(0, blob)?;
-    Ok(run_all(blob, directory, kinds, words, edits, replies))
+    let mut store = StoreMut {
+        counts: Counts::EMPTY,
+        blob,
+        directory,
+        kinds,
+        words,
+    };
+    let n = store.run_all(edits, replies);
+    Ok(Ran {
+        counts: store.counts,
+        edits: n,
+    })
 }

@@ -9,16 +9,12 @@ use reader::decode::decode_string;
 use reader::saveobj::DecodedSize;
 use reader::string_objects::decode_string_object;
 use std::io;
+use store::counts::Counts;
 use text::error::MatError;
 use writer::string_object::create_string_object_metadata;
 
 // The objects that the buffers have room for.
 const MOST_OBJECTS: u32 = 5;
-
-fn print_error(rt: &impl Print, e: MatError) -> io::Result<()> {
-    let failure = e.failure();
-    println!(rt; " refused {} {}", failure.number, failure.place)
-}
 
 // The reply of each of the edits.
 fn print_replies(rt: &impl Print, replies: &[u64]) -> io::Result<()> {
@@ -54,7 +50,7 @@ fn print_read(
             }
             Ok(())
         }
-        Err(e) => print_error(rt, e),
+        Err(e) => println!(rt; " {e}"),
     }
 }
 
@@ -66,41 +62,56 @@ fn text_buffer() -> [u8; 4096]
     [0; 4096]
 }
 
-// The strings of an object, by its metadata and by its own property.
-fn print_object(
-    rt: &impl Print,
-    blob: &[u8],
-    directory: &[u64],
-    kinds: &[u8],
-    words: &[u64],
-    id: u32,
-) -> io::Result<()> {
-    let text: &mut [u8] = &mut text_buffer();
-    let spans: &mut [u64] = &mut [0; 16];
-    let metadata = create_string_object_metadata(id);
-    let by_metadata = decode_string(blob, directory, kinds, words, &metadata, text, spans);
-    print!(rt; "object {id} by metadata:")?;
-    print_read(rt, by_metadata, text, spans)?;
-    let by_property = decode_string_object(blob, directory, kinds, words, id, text, spans);
-    print!(rt; "object {id} by property:")?;
-    print_read(rt, by_property, text, spans)
+// A store's buffers, or what the counts say of them.
+// Of this program: store's own struct of them is private.
+#[derive(Clone, Copy)]
+struct Store<'a> {
+    blob: &'a [u8],
+    directory: &'a [u64],
+    kinds: &'a [u8],
+    words: &'a [u64],
 }
 
-// The objects of a store that is cut to its counts, at most as many as the sample has room for.
-fn print_objects(
-    rt: &impl Print,
-    blob: &[u8],
-    directory: &[u64],
-    kinds: &[u8],
-    words: &[u64],
-) -> io::Result<()> {
-    for id in 1..=MOST_OBJECTS {
-        if kinds.len() < id as usize {
-            break;
+impl<'a> Store<'a> {
+    // The parts that the counts say.
+    fn counted(self, counts: Counts) -> Store<'a> {
+        Store {
+            blob: part(self.blob, 0, counts.blob_bytes),
+            directory: part(self.directory, 0, counts.objects.saturating_mul(2)),
+            kinds: part(self.kinds, 0, counts.objects),
+            words: part(self.words, 0, counts.words),
         }
-        print_object(rt, blob, directory, kinds, words, id)?;
     }
-    Ok(())
+
+    // The strings of an object, by its metadata and by its own property.
+    fn print_object(self, rt: &impl Print, id: u32) -> io::Result<()> {
+        let Store {
+            blob,
+            directory,
+            kinds,
+            words,
+        } = self;
+        let text: &mut [u8] = &mut text_buffer();
+        let spans: &mut [u64] = &mut [0; 16];
+        let metadata = create_string_object_metadata(id);
+        let by_metadata = decode_string(blob, directory, kinds, words, &metadata, text, spans);
+        print!(rt; "object {id} by metadata:")?;
+        print_read(rt, by_metadata, text, spans)?;
+        let by_property = decode_string_object(blob, directory, kinds, words, id, text, spans);
+        print!(rt; "object {id} by property:")?;
+        print_read(rt, by_property, text, spans)
+    }
+
+    // The objects of a store that is cut to its counts, at most as many as the sample has room for.
+    fn print_objects(self, rt: &impl Print) -> io::Result<()> {
+        for id in 1..=MOST_OBJECTS {
+            if self.kinds.len() < id as usize {
+                break;
+            }
+            self.print_object(rt, id)?;
+        }
+        Ok(())
+    }
 }
 
 // Writes the numbers of an edit from index at on, where they fit.
@@ -136,30 +147,13 @@ fn put_refused(ops: &mut [u64]) {
     put_edit(ops, 64, [0, 0, 0, 2, 0, 3, 0, 2]);
 }
 
-fn print_run(
-    rt: &impl Print,
-    ran: Ran,
-    blob: &[u8],
-    directory: &[u64],
-    kinds: &[u8],
-    words: &[u64],
-    replies: &[u64],
-) -> io::Result<()> {
+fn print_run(rt: &impl Print, ran: Ran, store: Store<'_>, replies: &[u64]) -> io::Result<()> {
     print_replies(rt, replies)?;
     println!(rt;
         "objects {}, blob bytes {}, words {}",
         ran.counts.objects, ran.counts.blob_bytes, ran.counts.words
     )?;
-    if (kinds.len() as u64) < ran.counts.objects {
-        return Ok(());
-    }
-    print_objects(
-        rt,
-        part(blob, 0, ran.counts.blob_bytes),
-        part(directory, 0, 2 * ran.counts.objects),
-        part(kinds, 0, ran.counts.objects),
-        part(words, 0, ran.counts.words),
-    )
+    store.counted(ran.counts).print_objects(rt)
 }
 
 fn main(rt: HostRuntime) -> io::Result<()> {
@@ -181,7 +175,15 @@ fn main(rt: HostRuntime) -> io::Result<()> {
         spans,
     };
     match run_edits(blob, directory, kinds, words, edits, replies) {
-        Ok(ran) => print_run(&rt, ran, blob, directory, kinds, words, replies),
-        Err(e) => print_error(&rt, e),
+        Ok(ran) => {
+            let store = Store {
+                blob,
+                directory,
+                kinds,
+                words,
+            };
+            print_run(&rt, ran, store, replies)
+        }
+        Err(e) => println!(rt; " {e}"),
     }
 }

@@ -20,7 +20,7 @@ fn code_point(byte: u8) -> u32
         0xBC => 0x0152,
         0xBD => 0x0153,
         0xBE => 0x0178,
-        _ => byte as u32,
+        _ => u32::from(byte),
     }
 }
 

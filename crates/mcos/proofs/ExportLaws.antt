@@ -1,26 +1,16 @@
 -- The outcomes of the calls for C, from what the calls that they stand on promise.
 -- Assumes nothing.
 use Prim.Native.Nat.{ℕ}
-use native.Mathlib.Omega.{arith}
-use mathlib.Core.Path.{◌≡◌, ◌∙◌, ap}
+use mathlib.Core.Path.{◌≡◌}
 use mathlib.Core.List.{List}
 use lib.ListN.{length}
-use Rattle.std.specs.Prelude.{Ok, Err, Result as Reply}
-use Rattle.std.specs.Result.{result_unwrap_or}
-use Rattle.text.specs.Errors.{failure_of}
-use Rattle.text.specs.Replies.{outcome}
 use Rattle.text.specs.Result.{Result, ok, error, map_result, overwritten}
-use Rattle.text.specs.declared.error.Failure.{Failure}
-use Rattle.text.specs.declared.error.MatError.{MatError}
 use Rattle.text.specs.declared.utf8.LossySize.{LossySize}
-use Rattle.writer.specs.Array.{Array}
 use Rattle.writer.specs.Spans.{joined, spans_from}
 use Rattle.reader.specs.Names.{ShownText}
 use Rattle.reader.specs.Replies.{size_of, text_size_of}
 use Rattle.reader.specs.declared.saveobj.DecodedSize.{DecodedSize}
-use Rattle.store.specs.Replies.{store_with, Edits}
-use Rattle.store.specs.declared.counts.Counts.{Counts}
-use Rattle.mcos.specs.Exports.{count_list, counts_in, store_in, Exports, ExportsEdit, ExportsList, ExportsStrings, ExportsText}
+use Rattle.mcos.specs.Exports.{Exports, ExportsList, ExportsStrings, ExportsText}
 
 -- a call that hands its callee's reply on: what is told of the reply holds of what the callee promises
 pub told : {A B : Type 0} {h : A → B} (m : Result A) {x : Result B} {v v' : B} {place r place' : ℕ} → x ≡ map_result h m → Exports (λ b. b) x v place r v' place' → Exports h m v place r v' place'
@@ -44,23 +34,3 @@ pub told_strings : {m : ℕ → ℕ → Result (List (List ℕ))} {text spans te
     → Exports (λ n. n) x v place r v' place' → x ≡ map_result size_of (m (length text) (length spans)) → text' ≡ overwritten joined (m (length text) (length spans)) text → spans' ≡ overwritten (spans_from 0) (m (length text) (length spans)) spans
     → ExportsStrings m text spans v place r text' spans' v' place'
 told_strings {m = m} {text = text} {spans = spans} s e t n = record { exports = told (m (length text) (length spans)) e s; text_after = t; spans_after = n }
-
--- ---- edits
-
--- an edit whose answer is told: its counts go to their cells where it is accepted, and are kept where it is refused
-module _ {counts blob directory kinds words counts' blob' directory' kinds' words' : List ℕ} {place r place' : ℕ} where
-  pub told_edit :
-      (m : Result (List Array)) (x : Reply Counts MatError)
-      → Edits (store_in counts blob directory kinds words) m x (store_with (result_unwrap_or x (counts_in counts)) blob' directory' kinds' words')
-      → Exports count_list (outcome x) counts place r counts' place'
-      → ExportsEdit (store_in counts blob directory kinds words) m place r (store_in counts' blob' directory' kinds' words') place'
-  told_edit (ok xs) (Ok c) said t = record { number = t.number; store_after_lem = rw t.value_after_lem said.store; place_after_lem = t.place_after_lem }
-  told_edit (ok xs) (Err e) said t = let z : ◌≡◌ {A = ℕ} 0 1 = (let y = said.reply in cc) in absurd (omega arith)
-  told_edit (error f) (Ok c) said t = let z : ◌≡◌ {A = ℕ} 0 1 = (let y = said.reply in cc) in absurd (omega arith)
-  told_edit (error f) (Err e) said t =
-      let y : failure_of e ≡ f = (let w = said.reply in cc) in
-      record {
-        number = t.number ∙ ap (λ (k : Failure). k.number) y;
-        store_after_lem = rw t.value_after_lem said.store;
-        place_after_lem = t.place_after_lem ∙ ap (λ (k : Failure). k.place) y;
-      }

@@ -74,7 +74,7 @@ pub record ExportsStrings (m : ℕ → ℕ → Result (List (List ℕ))) (text s
 abbrev pub layout_of : FileWrapper → List ℕ
 layout_of w =
     w.names ∷ w.classes ∷ w.records ∷ w.saveobj_blocks ∷ w.normalobj_blocks
-    ∷ w.offsets.o0 ∷ w.offsets.o1 ∷ w.offsets.o2 ∷ w.offsets.o3 ∷ w.offsets.o4 ∷ w.offsets.o5 ∷ w.offsets.o6 ∷ w.offsets.o7 ∷ []
+    ∷ get_or w.offsets 0 0 ∷ get_or w.offsets 1 0 ∷ get_or w.offsets 2 0 ∷ get_or w.offsets 3 0 ∷ get_or w.offsets 4 0 ∷ get_or w.offsets 5 0 ∷ get_or w.offsets 6 0 ∷ get_or w.offsets 7 0 ∷ []
 
 -- "which buffer the part belongs to": 0 the blob, 1 the placeholder
 abbrev pub source_cell : Source → ℕ

@@ -25,7 +25,7 @@ ghost use Rattle.mcos.specs.Exports.{count_cells, count_list, counts_in, layout_
 use reader::file_wrapper::FileWrapper;
 use reader::labels::{Part, Source};
 use reader::objects::ObjectRow;
-use reader::properties::ROW_WIDTH;
+use reader::properties::PropertyRow;
 use reader::saveobj::DecodedSize;
 use reader::{
     classes, decode, find, labels, listing, names, opaque, properties, saveobj, string_objects,
@@ -251,19 +251,19 @@ fn layout_of(w: FileWrapper) -> [u64; 13]
     ensures { result ≡ layout_of w }
 {
     [
-        w.names as u64,
+        u64::from(w.names),
         w.classes as u64,
         w.records as u64,
         w.saveobj_blocks as u64,
         w.normalobj_blocks as u64,
-        w.offsets.o0 as u64,
-        w.offsets.o1 as u64,
-        w.offsets.o2 as u64,
-        w.offsets.o3 as u64,
-        w.offsets.o4 as u64,
-        w.offsets.o5 as u64,
-        w.offsets.o6 as u64,
-        w.offsets.o7 as u64,
+        w.offsets[0] as u64,
+        w.offsets[1] as u64,
+        w.offsets[2] as u64,
+        w.offsets[3] as u64,
+        w.offsets[4] as u64,
+        w.offsets[5] as u64,
+        w.offsets[6] as u64,
+        w.offsets[7] as u64,
     ]
 }
 
@@ -385,7 +385,7 @@ pub extern "C" fn mcos_object_class_name(
 pub extern "C" fn mcos_properties(
     blob: &[u8],
     object_id: u32,
-    rows: &mut [[u32; ROW_WIDTH]],
+    rows: &mut [PropertyRow],
     count: &mut u64,
     place: &mut u64,
 ) -> u32

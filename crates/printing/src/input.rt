@@ -27,10 +27,9 @@ fn read_from<R: Read>(reader: &mut R, buf: &mut [u8], from: usize) -> Result<usi
     ensures front { Consumes (R.remaining reader.old) (R.remaining reader.new) (take (bytes_of result) (drop from buf.new)) }
     ensures end { IfOk result (AtEnd (R.remaining reader.new) (length buf.old - from)) }
 {
-    match reader.read(&mut buf[from..]) {
-        Ok(bytes) => Ok(bytes),
-        Err(error) => Err(ReadFailed { bytes: 0, error }),
-    }
+    reader
+        .read(&mut buf[from..])
+        .map_err(|error| ReadFailed { bytes: 0, error })
 }
 
 // Reads until buf is full or the input ends. Input can come in pieces; they stand in buf one after the other.

@@ -13,7 +13,7 @@ use output::{Output, buffer};
 use reader::classes::object_class_name;
 use reader::file_wrapper::FileWrapper;
 use reader::names::name;
-use reader::properties::{ROW_WIDTH, properties};
+use reader::properties::{PropertyRow, properties};
 use std::io::Read;
 use text::error::MatError;
 
@@ -23,73 +23,70 @@ const LARGE: usize = 65536;
 // The property rows that are lent: one for each 12 bytes of a blob of 65,536.
 const ROWS: usize = 5461;
 
-fn put_refusal(rt: &(impl Print + Eprint), o: &mut Output<'_>, error: MatError) {
-    o.put_part(rt, LinePart::Refused(error.failure().number));
-}
-
 // The value of a property that is a number.
-fn number_part(row: [u32; ROW_WIDTH]) -> LinePart {
-    if row[1] == 1 {
-        return LinePart::Heap(row[2]);
+fn number_part(row: PropertyRow) -> LinePart {
+    match row.field_type {
+        1 => LinePart::Heap(row.value),
+        _ => LinePart::Inline(row.value),
     }
-    LinePart::Inline(row[2])
 }
 
-// The rest of a line whose value is a number, or that its name does not fit text.
+// The buffers of a line's names: for a name, and for the name that is a property's value.
+// The rows are no field: they are lent for a whole list of properties, and the names anew for each line of it.
+#[derive(Drop)]
+struct Names<'a> {
+    text: &'a mut [u8],
+    value: &'a mut [u8],
+}
+
+// The rest of a line whose value is a number.
 fn list_number(
     rt: &(impl Print + Eprint),
     o: &mut Output<'_>,
     blob: &[u8],
-    row: [u32; ROW_WIDTH],
-    text: &mut [u8],
-) {
-    match name(blob, row[0], text) {
-        Ok(size) => {
-            o.put_name(rt, &text[0..size.bytes]);
-            o.put_part(rt, number_part(row));
-        }
-        Err(e) => put_refusal(rt, o, e),
-    }
+    row: PropertyRow,
+    names: &mut Names<'_>,
+) -> Result<(), MatError> {
+    let size = name(blob, row.name_index, names.text)?;
+    o.put_name(rt, &names.text[0..size.bytes]);
+    o.put_part(rt, number_part(row));
+    Ok(())
 }
 
-// The rest of a line whose value is a name, of this text, or that the property's own name does not fit text.
+// The rest of a line whose value is a name. Both names are there before either is printed.
 fn list_named(
     rt: &(impl Print + Eprint),
     o: &mut Output<'_>,
     blob: &[u8],
-    row: [u32; ROW_WIDTH],
-    value: &[u8],
-    text: &mut [u8],
-) {
-    match name(blob, row[0], text) {
-        Ok(size) => {
-            o.put_name(rt, &text[0..size.bytes]);
-            o.put_part(rt, LinePart::Name);
-            o.put_name(rt, value);
-            o.put_part(rt, LinePart::End);
-        }
-        Err(e) => put_refusal(rt, o, e),
-    }
+    row: PropertyRow,
+    names: &mut Names<'_>,
+) -> Result<(), MatError> {
+    let value = name(blob, row.value, names.value)?;
+    let size = name(blob, row.name_index, names.text)?;
+    o.put_name(rt, &names.text[0..size.bytes]);
+    o.put_part(rt, LinePart::Name);
+    o.put_name(rt, &names.value[0..value.bytes]);
+    o.put_part(rt, LinePart::End);
+    Ok(())
 }
 
-// One line: the property, or that one of its names does not fit its buffer. Both are there before either is printed.
+// One line: the property, or that one of its names does not fit its buffer.
 // The number in the row picks, as the row has it from the reader.
 fn list_property(
     rt: &(impl Print + Eprint),
     o: &mut Output<'_>,
     blob: &[u8],
-    row: [u32; ROW_WIDTH],
-    text: &mut [u8],
-    value: &mut [u8],
+    row: PropertyRow,
+    names: &mut Names<'_>,
 ) {
     o.put_part(rt, LinePart::Property);
-    if row[1] != 0 {
-        list_number(rt, o, blob, row, text);
-        return;
-    }
-    match name(blob, row[2], value) {
-        Ok(size) => list_named(rt, o, blob, row, &value[0..size.bytes], text),
-        Err(e) => put_refusal(rt, o, e),
+    let listed = if row.field_type != 0 {
+        list_number(rt, o, blob, row, names)
+    } else {
+        list_named(rt, o, blob, row, names)
+    };
+    if let Err(e) = listed {
+        o.put_refusal(rt, e);
     }
 }
 
@@ -98,14 +95,13 @@ fn list_properties(
     o: &mut Output<'_>,
     blob: &[u8],
     object_id: u32,
-    text: &mut [u8],
-    value: &mut [u8],
-    rows: &mut [[u32; ROW_WIDTH]],
+    names: &mut Names<'_>,
+    rows: &mut [PropertyRow],
 ) {
     match properties(blob, object_id, rows) {
         Ok(n) => {
             for row in &rows[0..n] {
-                list_property(rt, o, blob, *row, text, value);
+                list_property(rt, o, blob, *row, names);
                 if o.failed {
                     return;
                 }
@@ -113,7 +109,7 @@ fn list_properties(
         }
         Err(e) => {
             o.put_part(rt, LinePart::Property);
-            put_refusal(rt, o, e);
+            o.put_refusal(rt, e);
         }
     }
 }
@@ -123,28 +119,29 @@ fn list_object(
     o: &mut Output<'_>,
     blob: &[u8],
     object_id: u32,
-    text: &mut [u8],
-    value: &mut [u8],
-    rows: &mut [[u32; ROW_WIDTH]],
+    names: &mut Names<'_>,
+    rows: &mut [PropertyRow],
 ) {
     o.put_part(rt, LinePart::Object(object_id));
-    match object_class_name(blob, object_id, text) {
+    match object_class_name(blob, object_id, names.text) {
         Ok(size) => {
-            o.put_name(rt, &text[0..size.bytes]);
+            o.put_name(rt, &names.text[0..size.bytes]);
             o.put_part(rt, LinePart::End);
-            list_properties(rt, o, blob, object_id, text, value, rows);
+            list_properties(rt, o, blob, object_id, names, rows);
         }
-        Err(e) => put_refusal(rt, o, e),
+        Err(e) => o.put_refusal(rt, e),
     }
 }
 
 // The objects 1 to records - 1.
 fn list_objects(rt: &(impl Print + Eprint), o: &mut Output<'_>, blob: &[u8], records: u32) {
-    let text: &mut [u8] = &mut buffer::<u8, LARGE>();
-    let value: &mut [u8] = &mut buffer::<u8, LARGE>();
-    let rows: &mut [[u32; ROW_WIDTH]] = &mut buffer::<[u32; ROW_WIDTH], ROWS>();
+    let mut names = Names {
+        text: &mut buffer::<u8, LARGE>(),
+        value: &mut buffer::<u8, LARGE>(),
+    };
+    let rows: &mut [PropertyRow] = &mut buffer::<PropertyRow, ROWS>();
     for id in 1..records {
-        list_object(rt, o, blob, id, text, value, rows);
+        list_object(rt, o, blob, id, &mut names, rows);
         if o.failed {
             return;
         }
@@ -161,7 +158,7 @@ pub fn list(rt: &(impl Print + Eprint), blob: &[u8]) -> bool {
             o.put_part(rt, LinePart::Names(w.names));
             list_objects(rt, &mut o, blob, w.records as u32);
         }
-        Err(e) => put_refusal(rt, &mut o, e),
+        Err(e) => o.put_refusal(rt, e),
     }
     o.finish(rt)
 }

@@ -28,7 +28,7 @@ pub enum LinePart {
 fn is_plain(byte: u8) -> bool
     ensures { result ≡ is_plain byte }
 {
-    33 <= byte && byte <= 126 && byte != b'"' && byte != b'\\'
+    (33..=126).contains(&byte) && byte != b'"' && byte != b'\\'
 }
 
 // The small hexadecimal digit of a number below 16.
@@ -44,23 +44,24 @@ fn hex_digit(digit: u8) -> u8
 }
 
 // The length of what shows a byte.
+#[tactic(auto, unfolding(crate::specs::Lines::escape))]
 fn escape_length(byte: u8) -> usize
     ensures { result ≡ length (escape byte) }
 {
     if is_plain(byte) { 1 } else { 3 }
 }
 
-// Writes what shows a byte into out from index at on, and returns the index after it.
-fn put_escape(byte: u8, out: &mut [u8], at: usize) -> usize
-    requires { at + length (escape byte) ≤ length out.old }
-    ensures { Puts out.old at (escape byte) result out.new }
+// Writes what shows a byte to the start of out, and returns how many bytes that are.
+fn put_escape(byte: u8, out: &mut [u8]) -> usize
+    requires { length (escape byte) ≤ length out.old }
+    ensures { Puts out.old 0 (escape byte) result out.new }
 {
     if is_plain(byte) {
-        out[at] = byte;
-        return at + 1;
+        out[0] = byte;
+        return 1;
     }
     let shown = [b'\\', hex_digit(byte / 16), hex_digit(byte % 16)];
-    copy_into(&shown, out, at)
+    copy_into(&shown, out, 0)
 }
 
 // The length that a name's bytes need. Three bytes for each can pass 64 bits: then it is the largest number, which no output has.
@@ -74,14 +75,14 @@ fn escaped_need(name: &[u8]) -> usize
     n
 }
 
-// Writes a name's bytes to the start of out, and returns the index after them.
+// Writes a name's bytes to the start of out, and returns how many bytes show them.
 fn put_escaped(name: &[u8], out: &mut [u8]) -> usize
     requires { length (escaped name.now) ≤ length out.old }
     ensures { Puts out.old 0 (escaped name.now) result out.new }
 {
     let mut o: usize = 0;
     for byte in name {
-        o = put_escape(*byte, out, o);
+        o += put_escape(*byte, &mut out[o..]);
     }
     o
 }
@@ -111,22 +112,16 @@ fn decimal_length(value: u32) -> usize
     n
 }
 
-// Writes the decimal digits of a value into out from index at on, and returns the index after them. Division gives the last one first.
-fn put_decimal(value: u32, out: &mut [u8], at: usize) -> usize
-    requires { at + length (decimal value) ≤ length out.old }
-    ensures { Puts out.old at (decimal value) result out.new }
+// Writes the decimal digits of a value over out. Division gives the last one first.
+fn put_decimal(value: u32, out: &mut [u8])
+    requires { length out.old ≡ length (decimal value) }
+    ensures { out.new ≡ decimal value }
 {
-    let end = at + decimal_length(value);
     let mut v = value;
-    let mut i = end;
-    // The value ends this walk, not the index.
-    while 10 <= v {
-        i -= 1;
+    for i in (0..out.len()).rev() {
         out[i] = (48 + v % 10) as u8;
         v /= 10;
     }
-    out[at] = (48 + v) as u8;
-    end
 }
 
 // A word at the start of out.
@@ -146,13 +141,14 @@ fn write_numbered(start: &[u8], value: u32, end: &[u8], out: &mut [u8]) -> Resul
     requires { length start.now + length end.now < 2 ^ 32 }
     ensures { WritesPart (numbered start.now value end.now) out.old result out.new }
 {
-    let need = start.len() + decimal_length(value) + end.len();
+    let digits_end = start.len() + decimal_length(value);
+    let need = digits_end + end.len();
     if out.len() < need {
         return Err(MatError::OutputTooShort(need as u64));
     }
     copy_into(start, out, 0);
-    let rest = put_decimal(value, out, start.len());
-    Ok(copy_into(end, out, rest))
+    put_decimal(value, &mut out[start.len()..digits_end]);
+    Ok(copy_into(end, out, digits_end))
 }
 
 // A part of a line at the start of out.

@@ -4,6 +4,7 @@ ghost use Rattle.printing.specs.Lines.{escaped, line_text};
 ghost use Rattle.printing.specs.Output.{start_of, Adds};
 
 use crate::lines::{LinePart, write_escaped, write_part};
+use text::error::MatError;
 
 // Room for what is put into the buffer at a time: a part of a line, or a chunk of a name.
 const ROOM: usize = 4096;
@@ -90,6 +91,11 @@ impl<'a> Output<'a> {
         let used = self.used;
         let n = write_part(part, &mut self.out[used..]).unwrap_or(0);
         self.used += n;
+    }
+
+    // The rest of a line: the number of a check that did not hold.
+    pub(crate) fn put_refusal(&mut self, rt: &(impl Print + Eprint), error: MatError) {
+        self.put_part(rt, LinePart::Refused(error.failure().number));
     }
 
     // Puts a chunk of a name, as a line shows it: three bytes show a byte, so that it is never refused.

@@ -75,16 +75,7 @@ built n = record {
   records = n + 1;
   saveobj_blocks = n + 1;
   normalobj_blocks = 1;
-  offsets = record {
-    o0 = 56;
-    o1 = 88;
-    o2 = 96 + 16 * n;
-    o3 = 120 + 40 * n;
-    o4 = 128 + 40 * n;
-    o5 = 136 + 48 * n;
-    o6 = 136 + 48 * n;
-    o7 = 144 + 48 * n;
-  };
+  offsets = 56 ∷ 88 ∷ (96 + 16 * n) ∷ (120 + 40 * n) ∷ (128 + 40 * n) ∷ (136 + 48 * n) ∷ (136 + 48 * n) ∷ (144 + 48 * n) ∷ [];
 }
 
 -- the record of object id
@@ -191,7 +182,7 @@ module _ (n : ℕ) (few : n ≤ 349522) where
 
   -- ---- names
 
-  stored : (name_bytes b w.offsets.o0 1 ≡ any_name) × (name_bytes b w.offsets.o0 2 ≡ string_name)
+  stored : (name_bytes b (get_or w.offsets 0 0) 1 ≡ any_name) × (name_bytes b (get_or w.offsets 0 0) 2 ≡ string_name)
   unfolding name_bytes pieces
   stored = (rw (file_heap n), rw (file_heap n))
 
@@ -268,7 +259,7 @@ module _ (n : ℕ) (few : n ≤ 349522) where
         ap (record_triples b w) record_is
         ∙ simp (block_checked, one_property, start_is, two, three, x 1 (omega arith), x 2 (omega arith), x 3 (omega arith))
 
-    pub built_properties : object_properties (file_wrapper n) id ≡ ok ((1 ∷ 1 ∷ (id - 1) ∷ 0 ∷ 0 ∷ []) ∷ [])
+    pub built_properties : object_properties (file_wrapper n) id ≡ ok ((record { name_index = 1; field_type = 1; value = id - 1; name_replaced = 0; value_replaced = 0 }) ∷ [])
     unfolding object_properties record_properties
     built_properties = rw (built_opens, object_checked, triples_are, names_sound.0)
 

@@ -10,7 +10,7 @@ use Prim.Native.Nat.{ℕ, suc, ◌≤◌}
 use native.Mathlib.Omega.{arith}
 use borrow.Author.Tests.{leb-true}
 use lib.Dec.{eqb, leb}
-use lib.ListN.{length}
+use lib.ListN.{length, get_or}
 use Rattle.text.specs.Buffer.{same}
 use Rattle.text.specs.Result.{Result, ok, error, map_result, ◌>>◌, ◌>>=◌}
 use Rattle.text.specs.Unicode.{Below}
@@ -64,7 +64,7 @@ module _ (b : List ℕ) (w : FileWrapper) (wanted : List ℕ) (t : Triple) where
 
   -- index 0 is the empty name
   pub unnamed_matched : t.name_idx ≡ 0 → is_stored_as b w wanted t ≡ eqb (length wanted) 0
-  unnamed_matched z = sym (unnamed_equal b w.offsets.o0 wanted z)
+  unnamed_matched z = sym (unnamed_equal b (get_or w.offsets 0 0) wanted z)
 
 -- ---- the position of the first
 

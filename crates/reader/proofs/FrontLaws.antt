@@ -1,11 +1,11 @@
 -- A list that a loop fills from its front on, one value at each turn.
 -- Assumes nothing.
-use mathlib.Core.Path.{◌≡◌, refl}
+use mathlib.Core.Path.{◌≡◌, refl, ap, ◌∙◌}
 use mathlib.Core.List.{List, [], ◌∷◌, ◌++◌}
 use Prim.Native.Nat.{ℕ, ◌+◌, ◌<◌}
 use native.Mathlib.Omega.{arith}
 use lib.ListN.{length, get_or, set, take, drop}
-use Rattle.std.proofs.lemmas.List.{append_assoc, length-take-le, set_at, drop_more, take_more, take_all, get_or_at}
+use Rattle.std.proofs.lemmas.List.{append_assoc, append-nil, length-take-le, set_at, drop_more, drop_all, take_more, take_all, get_or_at}
 
 -- the first i values stand over the front of the list as it was
 pub record Fronts {A : Type 0} (xs old : List A) (i : ℕ) (now : List A) : Type 0 where
@@ -31,3 +31,7 @@ module _ {A : Type 0} {xs old : List A} where
 
   pub front_last : {now : List A} {i n : ℕ} → Fronts xs old i now → i ≡ n → length xs ≡ n → now ≡ xs ++ drop n old
   front_last {now} {i} {n} f z e = rw (← take_all n xs (omega arith), ← z) f.is
+
+  -- where the values are as many as the places
+  pub front_all : {now : List A} {i n : ℕ} → Fronts xs old i now → i ≡ n → length xs ≡ n → length old ≡ n → now ≡ xs
+  front_all {now} {i} {n} f z e l = front_last f z e ∙ ap (λ (d : List A). xs ++ d) (drop_all n old (omega arith)) ∙ append-nil xs

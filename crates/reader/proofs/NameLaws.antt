@@ -7,14 +7,14 @@ use Prim.Native.Nat.{ℕ, ◌+◌, ◌-◌, ◌^◌, ◌≤◌, ◌<◌}
 use native.Mathlib.Omega.{arith}
 use borrow.Author.Tests.{lt-ltb, leb-true}
 use lib.Dec.{leb, eqb}
-use lib.ListN.{length, take, drop}
+use lib.ListN.{length, take, drop, length-take, get_or}
 use lib.Seq.{slice, length-slice}
 use Rattle.std.specs.Option.{unwrap_or}
 use Rattle.std.specs.Prelude.{IsErr, Option, Result as Reply}
 use Rattle.std.specs.Result.{IsErrAnd}
 use Rattle.std.proofs.lemmas.List.{drop-take}
 use Rattle.text.specs.Errors.{failure_of}
-use Rattle.text.specs.Replies.{lossy_length, WritesLossy}
+use Rattle.text.specs.Replies.{lossy_length}
 use Rattle.text.specs.Result.{Result, ok, error, check_each, overwritten}
 use Rattle.text.specs.Utf8.{lossy}
 use Rattle.text.specs.declared.error.MatError.{MatError}
@@ -26,16 +26,16 @@ use Rattle.text.proofs.TestLaws.{either}
 use Rattle.text.proofs.Utf8Laws.{lossy_le}
 use Rattle.text.proofs.utf8.Lossy.{replaced_le}
 use Rattle.reader.specs.Blocks.{blocks}
-use Rattle.reader.specs.Names.{ShownText, shown_bytes}
-use Rattle.reader.specs.Stages.Names.{HasName, HasPieceAt, FirstPiece, IsSize}
+use Rattle.reader.specs.Names.{ShownText, pieces, heap_of}
+use Rattle.reader.specs.Stages.Names.{HasName, HasPiece, FirstPiece, IsSize}
 use Rattle.reader.specs.Opening.{declared_names, offset, is_within, is_ordered, piece_count, wrapper_of, check_regions, layout, empty_wrapper, opened}
-use Rattle.reader.specs.Stages.Opening.{Opens}
+use Rattle.reader.specs.Stages.Opening.{Ordered, Opens}
 use Rattle.reader.specs.Queries.{check_name, into_text, own_bytes}
 use Rattle.reader.specs.Replies.{WritesText}
 use Rattle.reader.specs.declared.file_wrapper.FileWrapper.{FileWrapper}
 use Rattle.reader.proofs.blocks.Laws.{blocks_end}
 use Rattle.reader.proofs.file_wrapper.Laws.{up, inside}
-use Rattle.reader.proofs.names.Pieces.{from_here, name_found}
+use Rattle.reader.proofs.names.Pieces.{from_here, named_heap, named_piece, starts_place, name_found}
 
 -- ---- what an opened blob has
 
@@ -119,13 +119,6 @@ refused m text r e p w = rw w (record { reply = handed_on r e p; buffer = refl }
 pub text_by : {m k : Result ShownText} → m ≡ k → {text text' : List ℕ} {r : Reply LossySize MatError} → WritesText k text r text' → WritesText m text r text'
 text_by e t = rw e t
 
--- bytes as they are shown
-pub shown_written : {s text text' : List ℕ} {r : Reply LossySize MatError} → WritesLossy s text r text' → WritesText (ok (shown_bytes s)) text r text'
-shown_written {s} {text} w =
-    either (leb (length (lossy s)) (length text))
-    (λ t. record { reply = simp t (simp t at w.reply); buffer = simp t (simp t at w.buffer) })
-    (λ t. record { reply = simp t (simp t at w.reply); buffer = simp t (simp t at w.buffer) })
-
 pub shown_size : (s : List ℕ) → length s ≤ 16777216 → {x : Option LossySize} → x ≡ lossy_length s → (d : LossySize) {n : LossySize} → n ≡ unwrap_or x d → IsSize s n
 unfolding lossy_length
 shown_size s few l d e =
@@ -149,10 +142,23 @@ text_same {m} {text} {text'} w = same_by m text text' w.buffer
 pub declared : (w : FileWrapper) (i : ℕ) {u : Unit {0}} → ok u ≡ check_name w i → i ≤ w.names
 declared w i e = leb-true i w.names (check_is 11 (leb i w.names) i (sym e))
 
-pub has_name : {b : List ℕ} {w : FileWrapper} → Opens b w → {i : ℕ} → i ≤ w.names → HasName b w.offsets.o0 i
+pub has_name : {b : List ℕ} {w : FileWrapper} → Opens b w → {i : ℕ} → i ≤ w.names → HasName b (get_or w.offsets 0 0) i
 has_name o h = record { inside = omega (arith, o); most = omega (arith, o.names) }
 
--- its piece, as the code slices the blob
-pub own_part : {b : List ℕ} {w : FileWrapper} → Opens b w → {i : ℕ} → i ≤ w.names → (i ≡ 0 → ⊥) → {s e : ℕ} → HasPieceAt b w.offsets.o0 i s → FirstPiece b s w.offsets.o0 e
-    → (take (e - s) (drop s b) ≡ own_bytes b w i) × (length (take (e - s) (drop s b)) ≤ 16777216)
-own_part {b} o h some {s} {e} p f = rw (part_slice s e b f.order) (name_found (has_name o h) some p f, omega (arith, length-slice s e b (omega (arith, f.inside, o)), o))
+pub heap_count : {b : List ℕ} {o : List ℕ} → Ordered b o → {n : ℕ} → n ≡ length (pieces (take (get_or o 0 0 - 40) (drop 40 b))) → n ≡ piece_count b
+heap_count {b} {o} k e = rw (part_slice 40 (get_or o 0 0) b k.heap, k.is) at e
+
+-- a stored name
+module _ {b : List ℕ} {w : FileWrapper} (o : Opens b w) {i : ℕ} (least : 1 ≤ i) (h : i ≤ w.names) where
+  pub heap_least : 40 ≤ get_or w.offsets 0 0
+  heap_least = named_heap (has_name o h) least
+
+  pub heap_piece : {heap : List ℕ} → heap ≡ heap_of b (get_or w.offsets 0 0) → HasPiece heap i
+  heap_piece r = record { least = least; most = rw r (named_piece (has_name o h) least) }
+
+-- its piece, as the code slices the rest of the heap
+module _ {b : List ℕ} {w : FileWrapper} (o : Opens b w) {i : ℕ} (h : i ≤ w.names) (some : i ≡ 0 → ⊥) where
+  pub own_part : {rest : List ℕ} → pieces rest ≡ drop (i - 1) (pieces (heap_of b (get_or w.offsets 0 0))) → {n : ℕ} → FirstPiece rest n
+      → (take n rest ≡ own_bytes b w i) × (length (take n rest) ≤ 16777216)
+  own_part {rest} p {n} f =
+      (name_found b (get_or w.offsets 0 0) i some p f, omega (arith, length-take n rest, f.inside, starts_place (heap_of b (get_or w.offsets 0 0)) rest i p, length-slice 40 (get_or w.offsets 0 0) b (omega (arith, o)), o))

@@ -77,7 +77,7 @@ module _ (xs : List Array) (few : length xs ≤ 349522) where
       (rw cells (each_holds 13 (is_cell directory (length words)) n each_cell))
 
   -- entry j is array j's payload
-  pub canonical_cell : (j place : ℕ) → j < n → cell_at directory kinds words j place ≡ ok (payload (get_or xs j no_array))
+  canonical_cell : (j place : ℕ) → j < n → cell_at directory kinds words j place ≡ ok (payload (get_or xs j no_array))
   unfolding cell_at
   canonical_cell j place h =
       simp (lt-ltb j (length directory / 2) (omega (arith, cells)), eq-eqb (get_or kinds j 0) 0 (get_or-replicate n j 0 0 h)) (ap ok (payload_at xs j h))

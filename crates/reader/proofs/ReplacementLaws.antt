@@ -7,7 +7,7 @@ use Rattle.std.specs.Prelude.{Some}
 use Prim.Native.Nat.{ℕ, ◌≤◌}
 use borrow.Author.Tests.{le-leb}
 use lib.Dec.{eqb, leb}
-use lib.ListN.{length, take, length-map}
+use lib.ListN.{length, length-map, get_or}
 use Rattle.text.specs.Result.{Result, ok, error, map_result, ◌>>◌, ◌>>=◌}
 use Rattle.text.specs.Utf8.{lossy, parts_from, repaired, scalars8}
 use Rattle.text.proofs.TestLaws.{either}
@@ -20,6 +20,7 @@ use Rattle.reader.specs.Queries.{into_output, into_text, check_name, shown, name
 use Rattle.reader.specs.Stages.Properties.{object_triples}
 use Rattle.reader.specs.declared.file_wrapper.FileWrapper.{FileWrapper}
 use Rattle.reader.specs.declared.records.ClassEntry.{ClassEntry}
+use Rattle.reader.specs.declared.properties.PropertyRow.{PropertyRow}
 use Rattle.reader.specs.declared.records.Triple.{Triple}
 
 -- ---- what a count says
@@ -27,7 +28,7 @@ use Rattle.reader.specs.declared.records.Triple.{Triple}
 module _ (b : List ℕ) (w : FileWrapper) (i : ℕ) where
   -- the name as it is stored
   abbrev stored : List ℕ
-  stored = name_bytes b w.offsets.o0 i
+  stored = name_bytes b (get_or w.offsets 0 0) i
 
   -- the count is 0 exactly where the name is well-formed
   pub counted_0 : (shown b w i).replaced ≡ 0 → scalars8 stored ≡ Some (repaired (parts_from stored 0))
@@ -48,7 +49,7 @@ module _ (b : List ℕ) (w : FileWrapper) (i : ℕ) where
 -- ---- the queries without counts, as they were defined before
 
 pub base_shown : List ℕ → FileWrapper → ℕ → List ℕ
-base_shown b w i = lossy (name_bytes b w.offsets.o0 i)
+base_shown b w i = lossy (name_bytes b (get_or w.offsets 0 0) i)
 
 pub base_name : List ℕ → ℕ → Result (List ℕ)
 base_name b i = do
@@ -126,8 +127,11 @@ object_class_kept b id room =
     (map_bind text_of (opened b) _ _ (λ w. map_seq text_of (check_object w id) _ (class_of_kept b w (object_record b w id).class_id)))
 
 -- the first three numbers of a row
-front_rows : (count : ℕ → ℕ) (ts : List Triple) → map (take 3) (map (row_of count) ts) ≡ map base_row ts
-unfolding base_row
+pub front_of : PropertyRow → List ℕ
+front_of r = r.name_index ∷ r.field_type ∷ r.value ∷ []
+
+front_rows : (count : ℕ → ℕ) (ts : List Triple) → map front_of (map (row_of count) ts) ≡ map base_row ts
+unfolding base_row front_of
 front_rows count [] = refl
 front_rows count (t ∷ ts) = ap (λ (rows : List (List ℕ)). base_row t ∷ rows) (front_rows count ts)
 
@@ -138,13 +142,13 @@ rows_into f h (ok xs) room = rw (h xs) (either (leb (length xs) room) (λ t. sim
 
 -- the rows are those of before with two numbers more, and so are the refusals and the need
 pub properties_kept : (b : List ℕ) (id room : ℕ)
-    → map_result (map (take 3)) (into_output (object_properties b id) room) ≡ into_output (map_result (map base_row) (object_triples b id)) room
+    → map_result (map front_of) (into_output (object_properties b id) room) ≡ into_output (map_result (map base_row) (object_triples b id)) room
 unfolding object_properties record_properties object_triples
 properties_kept b id room =
-    rows_into (map (take 3)) (λ rows. length-map rows (take 3)) (object_properties b id) room
+    rows_into (map front_of) (λ rows. length-map rows front_of) (object_properties b id) room
     ∙ ap (λ (m : Result (List (List ℕ))). into_output m room)
-    (map_bind (map (take 3)) (opened b) _ _
-    (λ w. map_seq (map (take 3)) (check_object w id) _ (map_bind (map (take 3)) (record_triples b w (object_record b w id)) _ _ (λ ts. ap ok (front_rows (replaced_of b w) ts))))
+    (map_bind (map front_of) (opened b) _ _
+    (λ w. map_seq (map front_of) (check_object w id) _ (map_bind (map front_of) (record_triples b w (object_record b w id)) _ _ (λ ts. ap ok (front_rows (replaced_of b w) ts))))
     ∙ sym (map_bind (map base_row) (opened b) _ _
     (λ w. map_seq (map base_row) (check_object w id) _ (rows_of (record_triples b w (object_record b w id))))))
   where

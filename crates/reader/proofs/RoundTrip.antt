@@ -181,13 +181,13 @@ module _ (a : Array) (x : List ℕ) (h : Writable a x) where
   strings_are =
       rw (each_holds 29 (is_paired w base n) n (λ i l. ap is_some (text_is i l))) (ap ok (stored_are n 0 (omega arith)))
 
-  pub round_trip_of : decode_payload (payload a ++ x) ≡ ok a.strings
+  round_trip_of : decode_payload (payload a ++ x) ≡ ok a.strings
   unfolding decode_payload
   round_trip_of = rw split (rw header_is (rw lengths_are strings_are))
 
 -- ---- an array that writing accepted
 
-pub writable : (dims text spans : List ℕ) {a : Array} → array_of dims text spans ≡ ok a → (x : List ℕ) → length (payload a ++ x) ≤ 2097152 → Writable a x
+writable : (dims text spans : List ℕ) {a : Array} → array_of dims text spans ≡ ok a → (x : List ℕ) → length (payload a ++ x) ≤ 2097152 → Writable a x
 writable dims text spans {a} e x m =
     let p = array_passed dims text spans e in
     let n = length spans / 2 in

@@ -1,6 +1,6 @@
 -- A name, or a placeholder for an empty one, as a part of a lent buffer (document 02, P1).
 -- Assumes nothing.
-use Rattle.std.specs.Prelude.{ℕ, ◌+◌, ◌≡◌, cond, List, eqb, length, take, drop}
+use Rattle.std.specs.Prelude.{ℕ, ◌+◌, ◌≡◌, cond, List, eqb, length, take, drop, get_or}
 use Rattle.std.specs.Borrow.{Bor}
 use Rattle.text.specs.Result.{Result, ok, error, or_error, ◌>>◌, ◌>>=◌}
 use Rattle.text.specs.Utf8.{scalars8}
@@ -21,7 +21,7 @@ placeholder_part n = record { source = source.Placeholder; start = 0; length = n
 abbrev pub name_part : List ℕ → List ℕ → FileWrapper → ℕ → Part
 name_part b placeholder w i =
     cond (eqb (length (own_bytes b w i)) 0) (placeholder_part (length placeholder))
-    (record { source = source.Blob; start = name_start b w.offsets.o0 i; length = length (own_bytes b w i) })
+    (record { source = source.Blob; start = name_start b (get_or w.offsets 0 0) i; length = length (own_bytes b w i) })
 
 -- 35: "is the name well-formed? Place: index." A text that is not has no scalar values.
 abbrev pub check_well_formed : List ℕ → ℕ → Result (List ℕ)

@@ -1,7 +1,7 @@
 -- Objects and their properties, each query as its checks in sequence.
 -- Assumes nothing.
 use Rattle.std.specs.Option.{option_map}
-use Rattle.std.specs.Prelude.{ℕ, zero, suc, ◌+◌, ◌-◌, Bool, cond, ◌||◌, List, [], ◌∷◌, map, leb, ltb, eqb}
+use Rattle.std.specs.Prelude.{ℕ, zero, suc, ◌+◌, ◌-◌, Bool, cond, ◌||◌, List, [], ◌∷◌, map, leb, ltb, eqb, get_or}
 use Rattle.std.specs.Prelude.{Option, Some, None}
 use Rattle.text.specs.Buffer.{same}
 use Rattle.text.specs.Result.{Result, ok, check, ◌>>◌, ◌>>=◌}
@@ -11,6 +11,7 @@ use Rattle.reader.specs.Queries.{check_name, check_object, object_record, own_by
 use Rattle.reader.specs.Wire.{u32_at, triple_at}
 use Rattle.reader.specs.declared.file_wrapper.FileWrapper.{FileWrapper}
 use Rattle.reader.specs.declared.objects.ObjectRow.{ObjectRow}
+use Rattle.reader.specs.declared.properties.PropertyRow.{PropertyRow}
 use Rattle.reader.specs.declared.records.ObjectRecord.{ObjectRecord}
 use Rattle.reader.specs.declared.records.Triple.{Triple}
 
@@ -24,7 +25,7 @@ block_id_of r = cond (eqb r.saveobj_id 0) r.normalobj_id r.saveobj_id
 
 -- "saved property blocks in 1 to 2", "normal property blocks in 3 to 4": where a region begins
 abbrev pub region_start : FileWrapper → ℕ → ℕ
-region_start w g = cond (eqb g 0) w.offsets.o1 w.offsets.o3
+region_start w g = cond (eqb g 0) (get_or w.offsets 1 0) (get_or w.offsets 3 0)
 
 -- 10: "the blocks of its region", as check 7 counted them
 abbrev pub region_blocks : FileWrapper → ℕ → ℕ
@@ -79,6 +80,10 @@ object_rows b = do
 abbrev pub no_row : ObjectRow
 no_row = record { class_id = 0; region = 0; block_id = 0; property_count = 0 }
 
+-- eight of them
+abbrev pub blank_rows : List ObjectRow
+blank_rows = no_row ∷ no_row ∷ no_row ∷ no_row ∷ no_row ∷ no_row ∷ no_row ∷ no_row ∷ []
+
 -- the n triples from byte i on
 unfoldable pub triples_from : List ℕ → ℕ → ℕ → List Triple
 triples_from b i zero = []
@@ -109,22 +114,27 @@ record_triples b w r = do
 
 -- "one row a triple with its three numbers", and then "the count for its name, and for its value where that is a name (else 0)" (document 02,
 -- P5), where count gives those of a name index
-abbrev pub row_of : (ℕ → ℕ) → Triple → List ℕ
-row_of count t =
-    t.name_idx ∷ t.field_type ∷ t.value ∷ count t.name_idx ∷ cond (eqb t.field_type 0) (count t.value) 0 ∷ []
+abbrev pub row_of : (ℕ → ℕ) → Triple → PropertyRow
+row_of count t = record {
+  name_index = t.name_idx;
+  field_type = t.field_type;
+  value = t.value;
+  name_replaced = count t.name_idx;
+  value_replaced = cond (eqb t.field_type 0) (count t.value) 0;
+}
 
 -- the count of a name index: "how many replacement characters were put in"
 abbrev pub replaced_of : List ℕ → FileWrapper → ℕ → ℕ
 replaced_of b w i = (shown b w i).replaced
 
 -- the properties of an object's record: 10, then the checks of each triple
-unfoldable pub record_properties : List ℕ → FileWrapper → ObjectRecord → Result (List (List ℕ))
+unfoldable pub record_properties : List ℕ → FileWrapper → ObjectRecord → Result (List PropertyRow)
 record_properties b w r = do
   ts ← record_triples b w r
   ok (map (row_of (replaced_of b w)) ts)
 
 -- "Properties: 1–7, 8, 10, then for each triple 11 for its name, 12, and 11 again if the type is 0"
-unfoldable pub object_properties : List ℕ → ℕ → Result (List (List ℕ))
+unfoldable pub object_properties : List ℕ → ℕ → Result (List PropertyRow)
 object_properties b id = do
   w ← opened b
   check_object w id

@@ -1,12 +1,11 @@
 -- Opening a blob: checks 1 to 7.
 -- Assumes nothing.
-use Rattle.std.specs.Prelude.{ℕ, ◌+◌, ◌*◌, ◌-◌, ◌/◌, Bool, cond, ◌||◌, List, leb, eqb, length}
+use Rattle.std.specs.Prelude.{ℕ, ◌+◌, ◌*◌, ◌-◌, ◌/◌, Bool, cond, ◌||◌, List, [], ◌∷◌, leb, eqb, length}
 use Rattle.text.specs.Result.{Result, ok, check, ◌>>◌, ◌>>=◌, check_each}
 use Rattle.reader.specs.Blocks.{blocks}
 use Rattle.reader.specs.Names.{pieces, heap_of}
 use Rattle.reader.specs.Wire.{u32_at}
 use Rattle.reader.specs.declared.file_wrapper.FileWrapper.{FileWrapper}
-use Rattle.reader.specs.declared.file_wrapper.Offsets.{Offsets}
 
 -- "at 4 the number of names"
 abbrev pub declared_names : List ℕ → ℕ
@@ -17,17 +16,9 @@ abbrev pub offset : List ℕ → ℕ → ℕ
 offset b k = u32_at b (8 + 4 * k)
 
 -- the "eight region offsets" of 3, as opening answers them
-abbrev pub offsets : List ℕ → Offsets
-offsets b = record {
-  o0 = offset b 0;
-  o1 = offset b 1;
-  o2 = offset b 2;
-  o3 = offset b 3;
-  o4 = offset b 4;
-  o5 = offset b 5;
-  o6 = offset b 6;
-  o7 = offset b 7;
-}
+abbrev pub offsets : List ℕ → List ℕ
+offsets b =
+    offset b 0 ∷ offset b 1 ∷ offset b 2 ∷ offset b 3 ∷ offset b 4 ∷ offset b 5 ∷ offset b 6 ∷ offset b 7 ∷ []
 
 -- 3: offset k lies within the blob
 abbrev pub is_within : List ℕ → ℕ → Bool
@@ -76,7 +67,7 @@ empty_wrapper = record {
   records = 0;
   saveobj_blocks = 0;
   normalobj_blocks = 0;
-  offsets = record { o0 = 0; o1 = 0; o2 = 0; o3 = 0; o4 = 0; o5 = 0; o6 = 0; o7 = 0 };
+  offsets = 0 ∷ 0 ∷ 0 ∷ 0 ∷ 0 ∷ 0 ∷ 0 ∷ 0 ∷ [];
 }
 
 -- "Opening a blob": 1; 2, which "reads: 0, or at least 40" (P2); then 3 to 7 unless the length is 0

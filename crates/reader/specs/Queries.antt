@@ -1,6 +1,6 @@
 -- Queries on an opened blob, each as its checks in sequence.
 -- Assumes nothing.
-use Rattle.std.specs.Prelude.{ℕ, ◌+◌, ◌*◌, cond, List, ◌∷◌, ◌++◌, leb, ltb, eqb, length}
+use Rattle.std.specs.Prelude.{ℕ, ◌+◌, ◌*◌, cond, List, ◌∷◌, ◌++◌, leb, ltb, eqb, length, get_or}
 use Rattle.text.specs.Result.{Result, ok, check, check_output, ◌>>◌, ◌>>=◌}
 use Rattle.reader.specs.Names.{ShownText, name_bytes, shown_name}
 use Rattle.reader.specs.Opening.{opened}
@@ -29,11 +29,11 @@ check_name w i = check 11 (leb i w.names) i
 
 -- "the name's own bytes" (document 02, P1), as they are stored in an opened blob, whose heap ends at offset 0
 abbrev pub own_bytes : List ℕ → FileWrapper → ℕ → List ℕ
-own_bytes b w i = name_bytes b w.offsets.o0 i
+own_bytes b w i = name_bytes b (get_or w.offsets 0 0) i
 
 -- the name of an index as it is shown
 abbrev pub shown : List ℕ → FileWrapper → ℕ → ShownText
-shown b w i = shown_name b w.offsets.o0 i
+shown b w i = shown_name b (get_or w.offsets 0 0) i
 
 -- "Name: 1–7, 11"
 unfoldable pub name_text : List ℕ → ℕ → Result ShownText
@@ -44,7 +44,7 @@ name_text b i = do
 
 -- "A class entry is 16 bytes"
 abbrev pub class_entry : List ℕ → FileWrapper → ℕ → ClassEntry
-class_entry b w c = class_entry_at b (w.offsets.o0 + 16 * c)
+class_entry b w c = class_entry_at b (get_or w.offsets 0 0 + 16 * c)
 
 -- "namespace, full stop, name", and "the sum over namespace and name" of the replacement characters (document 02, P5)
 abbrev pub qualified : ShownText → ShownText → ShownText
@@ -87,7 +87,7 @@ class_text b c = do
 
 -- "an object record 24"
 abbrev pub object_record : List ℕ → FileWrapper → ℕ → ObjectRecord
-object_record b w id = object_record_at b (w.offsets.o2 + 24 * id)
+object_record b w id = object_record_at b (get_or w.offsets 2 0 + 24 * id)
 
 -- 8: "Is the id from 1 to records − 1? Place: id."
 unfoldable pub check_object : FileWrapper → ℕ → Result (Unit {0})

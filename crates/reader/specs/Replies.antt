@@ -11,6 +11,7 @@ use Rattle.reader.specs.Objects.{object_rows}
 use Rattle.reader.specs.Queries.{into_output, into_text}
 use Rattle.reader.specs.Saveobj.{into_strings}
 use Rattle.reader.specs.declared.objects.ObjectRow.{ObjectRow}
+use Rattle.reader.specs.declared.properties.PropertyRow.{PropertyRow}
 use Rattle.reader.specs.declared.saveobj.DecodedSize.{DecodedSize}
 
 -- the size of a text as it is shown
@@ -23,7 +24,7 @@ pub record WritesText (m : Result ShownText) (text : List ℕ) (r : Reply LossyS
   pub buffer : text' ≡ overwritten (λ t. t.text) (into_text m (length text)) text
 
 -- a call that writes the rows that a query comes to
-abbrev pub WritesRows : Result (List (List ℕ)) → List (List ℕ) → Reply ℕ MatError → List (List ℕ) → Type 0
+abbrev pub WritesRows : Result (List PropertyRow) → List PropertyRow → Reply ℕ MatError → List PropertyRow → Type 0
 WritesRows m rows r rows' = Writes (into_output m) rows r rows'
 
 -- a call that writes a row for each object

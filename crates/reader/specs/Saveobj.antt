@@ -10,7 +10,6 @@ use Rattle.writer.specs.Array as writer
 use Rattle.writer.specs.Array.{Array}
 use Rattle.writer.specs.Spans.{is_some, joined}
 use Rattle.reader.specs.Units.{units_in}
-use Rattle.reader.specs.declared.saveobj.Header.{Header}
 
 -- "A payload is 1, number of dimensions, dimensions, lengths in code units, then units"
 abbrev pub dim_count : List ℕ → ℕ
@@ -37,6 +36,11 @@ stored_units payload base n i = units_in payload (base + n) (units_before payloa
 unfoldable pub stored_strings : List ℕ → ℕ → ℕ → ℕ → ℕ → List (List ℕ)
 stored_strings payload base n i zero = []
 stored_strings payload base n i (suc k) = the_text (stored_units payload base n i) ∷ stored_strings payload base n (suc i) k
+
+-- the index of the first length, and the number of strings
+pub record Header : Type 0 where
+  pub base : ℕ
+  pub strings : ℕ
 
 -- 22 to 26: what stands before the lengths
 unfoldable pub check_header : List ℕ → Result Header

@@ -20,12 +20,13 @@ fn round_up(end: usize) -> usize
     requires { end ≤ 16777216 }
     ensures { result ≡ (end + 7) / 8 * 8 }
 {
-    8 * ((end + 7) / 8)
+    end.next_multiple_of(8)
 }
 
 // The number of blocks of the region from byte start up to byte end: check 7, whose place is the byte of the first count whose entries
 // leave the region.
-// A `while`, since a block tells itself where the next begins.
+// A `while`, since a block tells itself where the next begins. The blob with two bounds, and no part of it: check 7 tells a byte of the
+// blob, and the step up is counted from the blob's start.
 pub(crate) fn count_blocks(
     blob: &[u8],
     start: usize,

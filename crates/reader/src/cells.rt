@@ -99,10 +99,10 @@ impl<'a> Cells<'a> {
     {
         let j = entry as usize;
         if self.directory.len() / 2 <= j {
-            return Err(MatError::CellNotFound(place as u64));
+            return Err(MatError::CellNotFound(u64::from(place)));
         }
         if self.kinds[j] != 0 {
-            return Err(MatError::UnexpectedCellKind(place as u64));
+            return Err(MatError::UnexpectedCellKind(u64::from(place)));
         }
         let start = to_usize(self.directory[2 * j]);
         let len = to_usize(self.directory[2 * j + 1]);

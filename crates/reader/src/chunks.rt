@@ -3,7 +3,7 @@ ghost use Rattle.std.specs.Prelude.{◌≡◌, ◌+◌, ◌≤◌, ◌<◌, ℕ,
 ghost use Rattle.reader.specs.Queries.{own_bytes};
 ghost use Rattle.reader.specs.Stages.Chunks.{ToNames, Looks, value_in, FillsTable};
 
-use crate::file_wrapper::Metadata;
+use crate::file_wrapper::{HEADER, Metadata};
 
 // So many names are looked at before the triples, or the rows, that may name them are gone over once for all of them.
 pub(crate) const CHUNK: usize = 4096;
@@ -30,14 +30,13 @@ pub(crate) trait Look: Copy {
         ensures { Looks metadata.entry usual (told self) index result };
 }
 
-// Names first up to end, whether one of their values is not the usual one, and where name end begins. The values stand in a table that the
-// caller lends: a chunk with a table of its own is copied where it is returned, which takes a search of few names 1.2 times the time.
+// Names first up to end, and whether one of their values is not the usual one. The values stand in a table that the caller lends: a chunk
+// with a table of its own is copied where it is returned, which takes a search of few names 1.2 times the time.
 #[derive(Clone, Copy)]
 pub(crate) struct Chunk {
     first: usize,
-    pub(crate) end: usize,
+    end: usize,
     pub(crate) any: bool,
-    pub(crate) next: usize,
     ghost few: { end ≤ first + 4096 },
 }
 
@@ -48,7 +47,7 @@ impl Chunk {
         ensures { result ≡ value_in table.now self.first self.end index other }
     {
         let i = index as usize;
-        if self.first <= i && i < self.end {
+        if (self.first..self.end).contains(&i) {
             table[i - self.first]
         } else {
             other
@@ -56,31 +55,53 @@ impl Chunk {
     }
 }
 
-// The chunk that begins with name first, at byte start.
-pub(crate) fn read_chunk<L: Look>(
-    look: L,
-    metadata: Metadata,
-    first: usize,
+// The walk of a blob's names from the first on: the names below name have been looked at, and name begins at start.
+#[derive(Clone, Copy)]
+pub(crate) struct NameWalk<'a> {
+    metadata: Metadata<'a>,
+    pub(crate) name: usize,
     start: usize,
-    table: &mut [L::Value; CHUNK],
-) -> Chunk
-    requires { ToNames metadata first (first + 1) start × (length table.old ≡ 4096) }
-    ensures { let told = FillsTable metadata.entry L.usual (L.told look) first in
-        (result.first ≡ first) × told result.end table.new result.any result.next }
-{
-    let end = usize::min(first + CHUNK, metadata.w.names as usize + 1);
-    let mut any = false;
-    let mut next = start;
-    for x in first..end {
-        let name = look.look_at(metadata, x, next);
-        table[x - first] = name.value;
-        any |= name.any;
-        next = name.next;
+    ghost to_names: { ToNames metadata name name start },
+}
+
+impl<'a> NameWalk<'a> {
+    // No name has been looked at.
+    pub(crate) fn new(metadata: Metadata<'a>) -> NameWalk<'a>
+        ensures of { result.metadata ≡ metadata.entry }
+        ensures first { result.name ≡ 0 }
+    {
+        NameWalk {
+            metadata,
+            name: 0,
+            start: HEADER,
+        }
     }
-    Chunk {
-        first,
-        end,
-        any,
-        next,
+
+    // Looks at a chunk of names, and goes on to the name after them.
+    pub(crate) fn next_chunk<L: Look>(&mut self, look: L, table: &mut [L::Value; CHUNK]) -> Chunk
+        requires { self.old.name ≤ self.old.metadata.w.names }
+        ensures same { self.new.metadata ≡ self.old.metadata }
+        ensures first { result.first ≡ self.old.name }
+        ensures end { result.end ≡ self.new.name }
+        ensures fills { let told = FillsTable self.old.metadata L.usual (L.told look) self.old.name in
+            told self.new.name table.new result.any self.new.start }
+    {
+        let metadata = self.metadata;
+        let first = self.name;
+        let end = usize::min(first + CHUNK, metadata.w.names as usize + 1);
+        let mut any = false;
+        let mut next = self.start;
+        for x in first..end {
+            let name = look.look_at(metadata, x, next);
+            table[x - first] = name.value;
+            any |= name.any;
+            next = name.next;
+        }
+        *self = NameWalk {
+            metadata,
+            name: end,
+            start: next,
+        };
+        Chunk { first, end, any }
     }
 }

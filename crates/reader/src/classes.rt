@@ -40,9 +40,9 @@ impl<'a> Metadata<'a> {
         ensures { outcome result ≡ entry_of self.entry.blob.now self.entry.w class_id }
     {
         if self.w.classes <= class_id as usize {
-            return Err(MatError::ClassIdOutOfRange(class_id as u64));
+            return Err(MatError::ClassIdOutOfRange(u64::from(class_id)));
         }
-        let at = self.w.offsets.o0 + ClassEntry::SIZE * class_id as usize;
+        let at = self.w.offsets[0] + ClassEntry::SIZE * class_id as usize;
         Ok(ClassEntry::read(self.blob, at))
     }
 
@@ -114,6 +114,6 @@ pub fn object_class_name(
     ensures { WritesText (object_class_text blob.now object_id) text.old result text.new }
 {
     let metadata = Metadata::open(blob)?;
-    metadata.check_object(object_id)?;
-    metadata.write_class(metadata.object_record(object_id).class_id, text)
+    let object = metadata.check_object(object_id)?;
+    metadata.write_class(object.record().class_id, text)
 }

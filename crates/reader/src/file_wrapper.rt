@@ -15,19 +15,6 @@ pub const MAX_BLOB: usize = 16777216;
 
 pub(crate) const HEADER: usize = 40;
 
-// The eight region offsets.
-#[derive(Clone, Copy, Debug, Default, PartialEq, Eq)]
-pub struct Offsets {
-    pub o0: usize,
-    pub o1: usize,
-    pub o2: usize,
-    pub o3: usize,
-    pub o4: usize,
-    pub o5: usize,
-    pub o6: usize,
-    pub o7: usize,
-}
-
 // An opened blob: the declared names, the whole class entries and object records, the blocks of the two property regions, the offsets.
 #[derive(Clone, Copy, Debug, Default, PartialEq, Eq)]
 pub struct FileWrapper {
@@ -36,55 +23,53 @@ pub struct FileWrapper {
     pub records: usize,
     pub saveobj_blocks: usize,
     pub normalobj_blocks: usize,
-    pub offsets: Offsets,
+    pub offsets: [usize; 8],
 }
 
-fn read_offset(blob: &[u8], k: usize) -> usize
-    requires { (40 ≤ length blob.now) × (k < 8) }
-    ensures { result ≡ offset blob.now k }
-{
-    read_u32(blob, 8 + 4 * k) as usize
+// A blob that is long enough for its header.
+#[derive(Clone, Copy)]
+struct Header<'a> {
+    blob: &'a [u8],
+    ghost fits: { 40 ≤ length blob.now },
 }
 
-// Check 3.
-fn check_within(blob: &[u8]) -> Result<(), MatError>
-    requires { 40 ≤ length blob.now }
-    ensures { outcome result ≡ check_each 3 (is_within blob.now) 0 8 }
-{
-    for k in 0..8 {
-        if blob.len() < read_offset(blob, k) {
-            return Err(MatError::OffsetOutOfBounds(k as u64));
-        }
+impl<'a> Header<'a> {
+    // Region offset k.
+    fn read_offset(self, k: usize) -> usize
+        requires { k < 8 }
+        ensures { result ≡ offset self.entry.blob.now k }
+    {
+        read_u32(self.blob, 8 + 4 * k) as usize
     }
-    Ok(())
-}
 
-// Check 5.
-fn check_order(blob: &[u8]) -> Result<(), MatError>
-    requires { 40 ≤ length blob.now }
-    ensures { outcome result ≡ check_each 5 (is_ordered blob.now) 1 8 }
-{
-    for k in 1..8 {
-        if read_offset(blob, k) < read_offset(blob, k - 1) {
-            return Err(MatError::OffsetsDescending(k as u64));
+    // Check 3.
+    fn check_within(self) -> Result<(), MatError>
+        ensures { outcome result ≡ check_each 3 (is_within self.entry.blob.now) 0 8 }
+    {
+        for k in 0..8 {
+            if self.blob.len() < self.read_offset(k) {
+                return Err(MatError::OffsetOutOfBounds(k as u64));
+            }
         }
+        Ok(())
     }
-    Ok(())
-}
 
-fn read_offsets(blob: &[u8]) -> Offsets
-    requires { 40 ≤ length blob.now }
-    ensures { result ≡ offsets blob.now }
-{
-    Offsets {
-        o0: read_offset(blob, 0),
-        o1: read_offset(blob, 1),
-        o2: read_offset(blob, 2),
-        o3: read_offset(blob, 3),
-        o4: read_offset(blob, 4),
-        o5: read_offset(blob, 5),
-        o6: read_offset(blob, 6),
-        o7: read_offset(blob, 7),
+    // Check 5.
+    fn check_order(self) -> Result<(), MatError>
+        ensures { outcome result ≡ check_each 5 (is_ordered self.entry.blob.now) 1 8 }
+    {
+        for k in 1..8 {
+            if self.read_offset(k) < self.read_offset(k - 1) {
+                return Err(MatError::OffsetsDescending(k as u64));
+            }
+        }
+        Ok(())
+    }
+
+    fn read_offsets(self) -> [usize; 8]
+        ensures { result ≡ offsets self.entry.blob.now }
+    {
+        std::array::from_fn(|k| self.read_offset(k))
     }
 }
 
@@ -118,12 +103,13 @@ impl FileWrapper {
         if blob.len() < HEADER {
             return parse_short(blob);
         }
-        check_within(blob)?;
-        let o = read_offsets(blob);
-        if o.o0 < HEADER {
+        let header = Header { blob };
+        header.check_within()?;
+        let o = header.read_offsets();
+        if o[0] < HEADER {
             return Err(MatError::NameHeapTooEarly(0));
         }
-        check_order(blob)?;
+        header.check_order()?;
         parse_regions(blob, o)
     }
 }
@@ -147,21 +133,21 @@ impl<'a> Metadata<'a> {
 }
 
 // Checks 6 and 7, once the offsets are right.
-fn parse_regions(blob: &[u8], offsets: Offsets) -> Result<FileWrapper, MatError>
+fn parse_regions(blob: &[u8], offsets: [usize; 8]) -> Result<FileWrapper, MatError>
     requires { Ordered blob.now offsets }
     ensures { outcome result ≡ check_regions blob.now }
 {
     let names = read_u32(blob, 4);
-    let pieces = count_pieces(blob, HEADER, offsets.o0);
+    let pieces = count_pieces(&blob[HEADER..offsets[0]]);
     if pieces < names as usize {
         return Err(MatError::TooFewNames(pieces as u64));
     }
-    let saveobj_blocks = count_blocks(blob, offsets.o1, offsets.o2, Triple::SIZE)?;
-    let normalobj_blocks = count_blocks(blob, offsets.o3, offsets.o4, Triple::SIZE)?;
+    let saveobj_blocks = count_blocks(blob, offsets[1], offsets[2], Triple::SIZE)?;
+    let normalobj_blocks = count_blocks(blob, offsets[3], offsets[4], Triple::SIZE)?;
     Ok(FileWrapper {
         names,
-        classes: (offsets.o1 - offsets.o0) / ClassEntry::SIZE,
-        records: (offsets.o3 - offsets.o2) / ObjectRecord::SIZE,
+        classes: (offsets[1] - offsets[0]) / ClassEntry::SIZE,
+        records: (offsets[3] - offsets[2]) / ObjectRecord::SIZE,
         saveobj_blocks,
         normalobj_blocks,
         offsets,

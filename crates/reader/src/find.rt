@@ -1,14 +1,14 @@
 // Finding a property by its name.
-ghost use Rattle.std.specs.Prelude.{◌≡◌, ◌+◌, ◌≤◌, false};
+ghost use Rattle.std.specs.Prelude.{◌≡◌, ◌≤◌, cond, false};
 ghost use Rattle.text.specs.Buffer.{same};
 ghost use Rattle.reader.specs.Objects.{is_stored_as, find_property, position};
 ghost use Rattle.reader.specs.Stages.Properties.{named_triples};
-ghost use Rattle.reader.specs.Stages.Chunks.{ToNames, value_in};
-ghost use Rattle.reader.specs.Stages.Find.{first_of, ScansNames};
+ghost use Rattle.reader.specs.Stages.Chunks.{value_in};
+ghost use Rattle.reader.specs.Stages.Find.{first_of};
 ghost use Rattle.text.specs.Replies.{outcome};
 
-use crate::chunks::{CHUNK, Chunk, Look, Looked, read_chunk};
-use crate::file_wrapper::{HEADER, Metadata};
+use crate::chunks::{CHUNK, Chunk, Look, Looked, NameWalk};
+use crate::file_wrapper::Metadata;
 use crate::names::compare_piece;
 use crate::properties::object_triples;
 use crate::triples::Triples;
@@ -37,59 +37,34 @@ impl<'a> Look for Wanted<'a> {
                 next: start,
             };
         }
-        let piece = compare_piece(metadata.blob, start, metadata.w.offsets.o0, self.bytes);
+        let piece = compare_piece(metadata.heap_at(start), self.bytes);
         Looked {
             value: piece.equal,
             any: piece.equal,
-            next: piece.end + 1,
+            next: start + piece.end + 1,
         }
     }
 }
 
-// Names below name have been looked at; name begins at start; best is the first triple that has a wanted one of them.
-// CountWalk has the first two of the three: that walk finds nothing, and writes rows that are lent.
-#[derive(Clone, Copy, Debug, PartialEq, Eq)]
-struct Walk {
-    name: usize,
-    start: usize,
-    best: usize,
-}
-
 impl<'a> Triples<'a> {
-    // The first of limit triples whose name is a wanted one of the chunk, else limit.
-    // Limit and no Option: what is answered is the limit of the next chunk.
+    // The first of limit triples whose name is a wanted one of the chunk, else limit. A search of the triples for each name by itself would
+    // take names times triples where many names are the same.
+    // Limit and no Option: what is answered is the limit of the next chunk, so that what `find` answers would be turned into it at once.
     #[tactic(auto, unfolding(crate::specs::Stages::Find::first_of, crate::specs::Stages::Find::first_index, crate::specs::Objects::triples_from))]
     fn first_in(self, limit: usize, flags: &[bool; CHUNK], chunk: Chunk) -> usize
         requires { limit ≤ self.count }
-        ensures { result ≡ first_of (λ x. value_in flags.now chunk.first chunk.end x false) self.entry limit }
+        ensures { let first = first_of (λ x. value_in flags.now chunk.first chunk.end x false) self.entry limit in
+            result ≡ cond chunk.any first limit }
     {
+        if !chunk.any {
+            return limit;
+        }
         for k in 0..limit {
             if chunk.get_or(flags, self.get(k).name_idx, false) {
                 return k;
             }
         }
         limit
-    }
-
-    // Looks at a chunk of names, and if one of them is wanted, at the triples before best. A search of the triples for each name by itself
-    // would take names times triples where many names are the same.
-    fn next_chunk(self, walk: Walk, wanted: &[u8]) -> Walk
-        requires { ToNames self.metadata walk.name (walk.name + 1) walk.start × (walk.best ≤ self.count) }
-        ensures { ScansNames self.entry wanted.now walk result }
-    {
-        let look = Wanted { bytes: wanted };
-        let mut flags = [false; CHUNK];
-        let chunk = read_chunk(look, self.metadata, walk.name, walk.start, &mut flags);
-        let best = if chunk.any {
-            self.first_in(walk.best, &flags, chunk)
-        } else {
-            walk.best
-        };
-        Walk {
-            name: chunk.end,
-            start: chunk.next,
-            best,
-        }
     }
 
     // The position of the first triple whose name is stored as wanted. The name heap is walked once.
@@ -100,18 +75,15 @@ impl<'a> Triples<'a> {
             result ≡ position (is_stored_as m.blob.now m.w wanted.now) (named_triples self.entry) }
     {
         let names = self.metadata.w.names as usize;
-        let mut walk = Walk {
-            name: 0,
-            start: HEADER,
-            best: self.count,
-        };
+        let look = Wanted { bytes: wanted };
+        let mut flags = [false; CHUNK];
+        let mut walk = NameWalk::new(self.metadata);
+        let mut best = self.count;
         while walk.name <= names {
-            walk = self.next_chunk(walk, wanted);
+            let chunk = walk.next_chunk(look, &mut flags);
+            best = self.first_in(best, &flags, chunk);
         }
-        if walk.best == self.count {
-            return None;
-        }
-        Some(walk.best)
+        (best < self.count).then_some(best)
     }
 }
 

@@ -4,7 +4,7 @@ ghost use Rattle.text.specs.Replies.{outcome};
 ghost use Rattle.reader.specs.Labels.{placeholder_part, label_of, IsLabel};
 
 use crate::file_wrapper::Metadata;
-use crate::names::{check_name, piece_start};
+use crate::names::check_name;
 use text::error::MatError;
 use text::utf8::terminated_length;
 
@@ -45,17 +45,16 @@ pub fn label_source(blob: &[u8], placeholder: &[u8], index: u32) -> Result<Part,
     if index == 0 {
         return Ok(unnamed(placeholder));
     }
-    let heap_end = metadata.w.offsets.o0;
-    let start = piece_start(blob, heap_end, index as usize);
-    let Some(length) = terminated_length(&blob[start..heap_end]) else {
-        return Err(MatError::NameIllFormed(index as u64));
+    let rest = metadata.heap_from(index);
+    let Some(length) = terminated_length(rest) else {
+        return Err(MatError::NameIllFormed(u64::from(index)));
     };
     if length == 0 {
         return Ok(unnamed(placeholder));
     }
     Ok(Part {
         source: Source::Blob,
-        start,
+        start: metadata.w.offsets[0] - rest.len(),
         length,
     })
 }

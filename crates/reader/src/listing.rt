@@ -1,15 +1,16 @@
 // The listing of a blob's objects.
-ghost use Rattle.std.specs.Prelude.{◌≡◌, ◌+◌, ◌-◌, ◌*◌, ◌≤◌, ◌<◌, length};
+ghost use Rattle.std.specs.Prelude.{◌≡◌, ◌-◌, ◌≤◌, ◌<◌, length};
 ghost use Rattle.reader.specs.Stages.Blocks.{HasBlock};
-ghost use Rattle.reader.specs.Stages.Listing.{ChecksObjects, Indexes, first_entry, Fills, cursor_of, with_cursor, first_cursors, cursor_from, cursor_at, EntryInside, Nearest, ToBlock, ListingFor, ToNext, NextObject};
-ghost use Rattle.reader.specs.Objects.{region_start};
+ghost use Rattle.reader.specs.Stages.Listing.{ChecksObjects, Indexes, first_entry, Fills, with_cursor, first_cursors, cursor_from, cursor_at, EntryInside, Nearest, ToBlock, ListingFor, ToNext, NextObject};
+ghost use Rattle.reader.specs.Objects.{region_start, blank_rows};
 ghost use Rattle.reader.specs.Stages.Objects.{number_of};
 ghost use Rattle.reader.specs.Replies.{WritesObjects};
 
 use crate::blocks::block_after;
 use crate::file_wrapper::{FileWrapper, Metadata};
 use crate::objects::{
-    BlockId, ObjectRow, Region, block_of, check_block, object_row, region_blocks, region_start,
+    BlockId, Object, ObjectRow, Region, block_of, check_block, object_row, region_blocks,
+    region_start,
 };
 use crate::plan::{ENTRIES, Plan};
 use crate::records::{Triple, read_u32};
@@ -17,6 +18,7 @@ use text::error::MatError;
 
 // The block ids that were met last in each region, and whether one was below the one before it.
 // One walk checks each object and gathers this: is_sorted would take a walk more for each region.
+// Two fields by name: an array by Region takes 1.04 times the instructions of a listing.
 #[derive(Clone, Copy, Debug, PartialEq, Eq)]
 struct Order {
     saveobj: u32,
@@ -53,7 +55,8 @@ fn check_objects(metadata: Metadata) -> Result<bool, MatError>
         falls: false,
     };
     for i in 1..metadata.w.records {
-        let object = metadata.object_record(i as u32);
+        let id = i as u32;
+        let object = Object { metadata, id }.record();
         check_block(metadata.w, object)?;
         order = met(order, block_of(object));
     }
@@ -107,80 +110,18 @@ fn fill_region(plan: Plan, region: Region, index: &mut [u32; ENTRIES])
     }
 }
 
-// Where the walk of each property region stands.
-// Two fields by name, here and in Order: an array by Region would take a proof of the bound at each index.
-#[derive(Clone, Copy, Debug, PartialEq, Eq)]
-pub(crate) struct Cursors {
-    pub(crate) saveobj: Cursor,
-    pub(crate) normalobj: Cursor,
-}
-
-// The cursors at the start of both regions.
-fn first_cursors(w: FileWrapper) -> Cursors
+// Where the walk of each property region stands, by Region: at the start of both.
+fn first_cursors(w: FileWrapper) -> [Cursor; 2]
     ensures { result ≡ first_cursors w }
 {
-    Cursors {
-        saveobj: Cursor {
-            block: 0,
-            at: w.offsets.o1,
-        },
-        normalobj: Cursor {
-            block: 0,
-            at: w.offsets.o3,
-        },
-    }
+    [w.offsets[1], w.offsets[3]].map(|at| Cursor { block: 0, at })
 }
 
-fn cursor_of(cursors: Cursors, region: Region) -> Cursor
-    ensures { result ≡ cursor_of cursors region }
-{
-    match region {
-        Region::Saved => cursors.saveobj,
-        Region::Normal => cursors.normalobj,
-    }
-}
-
-fn with_cursor(cursors: Cursors, region: Region, cursor: Cursor) -> Cursors
+fn with_cursor(mut cursors: [Cursor; 2], region: Region, cursor: Cursor) -> [Cursor; 2]
     ensures { result ≡ with_cursor cursors region cursor }
 {
-    match region {
-        Region::Saved => Cursors {
-            saveobj: cursor,
-            ..cursors
-        },
-        Region::Normal => Cursors {
-            normalobj: cursor,
-            ..cursors
-        },
-    }
-}
-
-// Where the walk to a block sets out, at most a stride before it: the region's cursor, or the last entry that is not past the block.
-#[tactic(auto, unfolding(crate::specs::Stages::Listing::index_entry))]
-fn nearest(index: &[u32; ENTRIES], plan: Plan, cursors: Cursors, block: BlockId) -> Cursor
-    requires { EntryInside plan block × (length index.now ≡ 8192) }
-    ensures { Nearest index.now plan.entry cursors block result }
-{
-    let cursor = cursor_of(cursors, block.region);
-    let id = block.id as usize;
-    if cursor.block <= id && id - cursor.block < plan.stride {
-        return cursor;
-    }
-    let entry = first_entry(plan, block.region) + id / plan.stride;
-    Cursor {
-        block: id - id % plan.stride,
-        at: index[entry] as usize,
-    }
-}
-
-// The cursor at a property block that its region has.
-fn seek_block(index: &[u32; ENTRIES], plan: Plan, cursors: Cursors, block: BlockId) -> Cursor
-    requires { ToBlock index.now plan cursors block }
-    ensures { let m = plan.entry.metadata in
-        result ≡ cursor_at m.blob.now (region_start m.w (number_of block.region)) block.id }
-{
-    let from = nearest(index, plan, cursors, block);
-    seek(plan.metadata.blob, from, block.id as usize)
+    cursors[region as usize] = cursor;
+    cursors
 }
 
 // The objects of a blob, of which a listing is made.
@@ -222,27 +163,66 @@ fn index_blocks(plan: Plan) -> [u32; ENTRIES]
 #[derive(Clone, Copy, Debug, PartialEq, Eq)]
 pub(crate) struct Step {
     pub(crate) row: ObjectRow,
-    pub(crate) cursors: Cursors,
+    pub(crate) cursors: [Cursor; 2],
 }
 
-// Object i, counted from 0. A read cannot fail: the checks of all objects hold.
-fn next_object(index: &[u32; ENTRIES], plan: Plan, cursors: Cursors, i: usize) -> Step
-    requires { ToNext index.now plan cursors i }
-    ensures { NextObject plan.entry.metadata i result }
-{
-    let metadata = plan.metadata;
-    let object = metadata.object_record(i as u32 + 1);
-    let block = block_of(object);
-    if block.id == 0 {
-        return Step {
-            row: object_row(object, block, 0),
-            cursors,
-        };
+// The blocks of a blob with their index, which is filled. The entries are lent: they are 32 KB.
+#[derive(Clone, Copy)]
+pub(crate) struct BlockIndex<'a> {
+    plan: Plan<'a>,
+    entries: &'a [u32; ENTRIES],
+    ghost filled: { Indexes plan entries.now },
+}
+
+impl<'a> BlockIndex<'a> {
+    // Where the walk to a block sets out, at most a stride before it: the region's cursor, or the last entry that is not past the block.
+    #[tactic(auto, unfolding(crate::specs::Stages::Listing::index_entry))]
+    fn nearest(self, cursors: [Cursor; 2], block: BlockId) -> Cursor
+        requires { EntryInside self.plan block }
+        ensures { Nearest self.entry.entries.now self.entry.plan cursors block result }
+    {
+        let cursor = cursors[block.region as usize];
+        let id = block.id as usize;
+        if cursor.block <= id && id - cursor.block < self.plan.stride {
+            return cursor;
+        }
+        let entry = first_entry(self.plan, block.region) + id / self.plan.stride;
+        Cursor {
+            block: id - id % self.plan.stride,
+            at: self.entries[entry] as usize,
+        }
     }
-    let cursor = seek_block(index, plan, cursors, block);
-    Step {
-        row: object_row(object, block, read_u32(metadata.blob, cursor.at)),
-        cursors: with_cursor(cursors, block.region, cursor),
+
+    // The cursor at a property block that its region has.
+    fn seek_block(self, cursors: [Cursor; 2], block: BlockId) -> Cursor
+        requires { ToBlock self.plan.metadata cursors block }
+        ensures { let m = self.entry.plan.metadata in
+            result ≡ cursor_at m.blob.now (region_start m.w (number_of block.region)) block.id }
+    {
+        let from = self.nearest(cursors, block);
+        seek(self.plan.metadata.blob, from, block.id as usize)
+    }
+
+    // Object i, counted from 0. A read cannot fail: the checks of all objects hold.
+    fn next_object(self, cursors: [Cursor; 2], i: usize) -> Step
+        requires { ToNext self.plan.metadata cursors i }
+        ensures { NextObject self.entry.plan.metadata i result }
+    {
+        let metadata = self.plan.metadata;
+        let id = i as u32 + 1;
+        let object = Object { metadata, id }.record();
+        let block = block_of(object);
+        if block.id == 0 {
+            return Step {
+                row: object_row(object, block, 0),
+                cursors,
+            };
+        }
+        let cursor = self.seek_block(cursors, block);
+        Step {
+            row: object_row(object, block, read_u32(metadata.blob, cursor.at)),
+            cursors: with_cursor(cursors, block.region, cursor),
+        }
     }
 }
 
@@ -252,12 +232,37 @@ pub fn list_objects(blob: &[u8], rows: &mut [ObjectRow]) -> Result<usize, MatErr
 {
     let listing = start_listing(blob, rows.len())?;
     let plan = listing.plan;
-    let index = index_blocks(plan);
+    let entries = index_blocks(plan);
+    let index = BlockIndex {
+        plan,
+        entries: &entries,
+    };
     let mut cursors = first_cursors(plan.metadata.w);
     for i in 0..listing.count {
-        let step = next_object(&index, plan, cursors, i);
+        let step = index.next_object(cursors, i);
         rows[i] = step.row;
         cursors = step.cursors;
     }
     Ok(listing.count)
+}
+
+// A listing of eight rows, and its reply: the rows stand beside it, since a refusal promises them too.
+#[derive(Clone, Copy)]
+pub struct ObjectList {
+    pub reply: Result<usize, MatError>,
+    pub rows: [ObjectRow; 8],
+}
+
+// The same into eight rows of zeros, by value: its callers need no reference to a row.
+pub fn list_eight(blob: &[u8]) -> ObjectList
+    ensures { WritesObjects blob.now blank_rows result.reply result.rows }
+{
+    let mut rows = [ObjectRow {
+        class_id: 0,
+        region: 0,
+        block_id: 0,
+        property_count: 0,
+    }; 8];
+    let reply = list_objects(blob, &mut rows);
+    ObjectList { reply, rows }
 }

@@ -1,10 +1,10 @@
 // The name heap: pieces of bytes, cut at zero bytes.
-ghost use Rattle.std.specs.Prelude.{◌≡◌, ◌+◌, ◌≤◌, ◌<◌, length};
+ghost use Rattle.std.specs.Prelude.{◌≡◌, ◌+◌, ◌-◌, ◌≤◌, length, get_or, drop};
 ghost use Rattle.std.proofs.Math.Seq.{slice};
 ghost use Rattle.text.specs.Replies.{outcome};
 ghost use Rattle.text.specs.Result.{ok};
-ghost use Rattle.reader.specs.Names.{pieces, shown_bytes};
-ghost use Rattle.reader.specs.Stages.Names.{Counted, Skips, HasPiece, HasPieceAt, FirstPiece, ComparesPiece, IsSize};
+ghost use Rattle.reader.specs.Names.{pieces, heap_of, shown_bytes};
+ghost use Rattle.reader.specs.Stages.Names.{zeros, Skips, HasPiece, Running, FirstPiece, ComparesPiece, IsSize};
 ghost use Rattle.reader.specs.Queries.{check_name, own_bytes, name_text};
 ghost use Rattle.reader.specs.Replies.{WritesText};
 
@@ -15,141 +15,145 @@ use text::utf8::{LossySize, lossy_length, write_lossy};
 // Zero bytes are counted by blocks: a count of one byte over a known number of bytes is compiled to vector operations, 16 bytes in each.
 const BLOCK: usize = 64;
 
-// 1 where the byte at i is zero, else 0.
-fn count_zero(blob: &[u8], i: usize) -> u8
-    requires { i < length blob.now }
-    ensures { Counted blob.now i (i + 1) result }
-{
-    if blob[i] == 0 { 1 } else { 0 }
-}
-
-// How many bytes of the block at start are zero.
-fn count_zeros(blob: &[u8], start: usize) -> usize
-    requires { start + 64 ≤ length blob.now }
-    ensures { Counted blob.now start (start + 64) result }
+// How many bytes of a block are zero.
+fn count_zeros(block: &[u8; BLOCK]) -> usize
+    ensures { result ≡ zeros block.now }
 {
     let mut n: u8 = 0;
-    for i in start..start + BLOCK {
-        n += count_zero(blob, i);
+    for byte in block {
+        n += u8::from(*byte == 0);
     }
-    n as usize
+    usize::from(n)
 }
 
-// Zero bytes that were passed, and where the next byte is.
-#[derive(Clone, Copy, Debug, PartialEq, Eq)]
-struct Skipped {
+// Zero bytes that were passed, and the bytes after them.
+#[derive(Clone, Copy)]
+struct Skipped<'a> {
     zeros: usize,
-    at: usize,
+    rest: &'a [u8],
 }
 
-// Passes whole blocks from start on, as long as they hold no more than most zero bytes.
-// A `while`: where it stops is answered, and a loop over chunks would count that beside them.
-fn skip_blocks(blob: &[u8], start: usize, end: usize, most: usize) -> Skipped
-    requires { (start ≤ end) × (end ≤ length blob.now) }
-    ensures { Skips blob.now start end most result }
+// Passes whole blocks, as long as they hold no more than most zero bytes.
+// A `while`: what is left where it stops is answered, which a loop over chunks would count beside them.
+fn skip_blocks(bytes: &[u8], most: usize) -> Skipped
+    ensures { Skips bytes.now most result.zeros result.rest.now }
 {
     let mut zeros: usize = 0;
-    let mut at = start;
-    while BLOCK <= end - at {
-        let more = zeros + count_zeros(blob, at);
+    let mut rest = bytes;
+    while let Some((block, after)) = rest.split_first_chunk::<BLOCK>() {
+        let more = zeros + count_zeros(block);
         if most < more {
-            return Skipped { zeros, at };
+            return Skipped { zeros, rest };
         }
         zeros = more;
-        at += BLOCK;
+        rest = after;
     }
-    Skipped { zeros, at }
+    Skipped { zeros, rest }
 }
 
-// The number of pieces of the bytes from start up to end: the zero bytes, and one more.
-pub(crate) fn count_pieces(blob: &[u8], start: usize, end: usize) -> usize
-    requires { (start ≤ end) × (end ≤ length blob.now) }
-    ensures { result ≡ length (pieces (slice start end blob.now)) }
+// The number of pieces: the zero bytes, and one more.
+pub(crate) fn count_pieces(bytes: &[u8]) -> usize
+    ensures { result ≡ length (pieces bytes.now) }
 {
     // Not more than all bytes are zero, so every whole block is passed.
-    let blocks = skip_blocks(blob, start, end, end - start);
-    let mut n = blocks.zeros;
-    for i in blocks.at..end {
-        n += count_zero(blob, i) as usize;
+    let blocks = skip_blocks(bytes, bytes.len());
+    let mut last: usize = 0;
+    for byte in blocks.rest {
+        last += usize::from(*byte == 0);
     }
-    n + 1
+    blocks.zeros + last + 1
 }
 
-// Where piece index, from 1, of the bytes from byte 40 up to end begins.
+// The heap from piece index, from 1, on.
 // A `while`: the zero bytes end it, and not the index. A `for` would return from within and need an end that never comes.
-pub(crate) fn piece_start(blob: &[u8], end: usize, index: usize) -> usize
-    requires { HasPiece blob.now end index }
-    ensures { HasPieceAt blob.now end index result }
+fn from_piece(heap: &[u8], index: usize) -> &[u8]
+    requires { HasPiece heap.now index }
+    ensures { pieces result.now ≡ drop (index - 1) (pieces heap.now) }
 {
     if index == 1 {
-        return HEADER;
+        return heap;
     }
     // The piece begins after zero byte index - 1, whose block is not passed.
-    let blocks = skip_blocks(blob, HEADER, end, index - 2);
+    let blocks = skip_blocks(heap, index - 2);
+    let rest = blocks.rest;
     let mut k = blocks.zeros + 1;
-    let mut i = blocks.at;
+    let mut i = 0;
     while k < index {
-        if blob[i] == 0 {
+        if rest[i] == 0 {
             k += 1;
         }
         i += 1;
     }
-    i
+    &rest[i..]
 }
 
-// Where the piece that begins at start ends: at the first zero byte, or at the end of the heap.
-pub(crate) fn piece_end(blob: &[u8], start: usize, end: usize) -> usize
-    requires { (start ≤ end) × (end ≤ length blob.now) }
-    ensures { FirstPiece blob.now start end result }
+// Where the first piece ends, none of whose first bytes up to from is zero: at the first zero byte, or at the end.
+// By index: with `position`, and with the bytes from there on as a slice, a search of 20,000 names takes 1.4 times the time.
+pub(crate) fn piece_end(rest: &[u8], from: usize) -> usize
+    requires { Running rest.now from }
+    ensures { FirstPiece rest.now result }
 {
-    for i in start..end {
-        if blob[i] == 0 {
+    for i in from..rest.len() {
+        if rest[i] == 0 {
             return i;
         }
     }
-    end
+    rest.len()
 }
 
 // Where a piece ends, and whether its bytes are wanted.
+// The end as an index, and no rest as a slice: the walk over a chunk of names goes by where in the blob they begin.
 #[derive(Clone, Copy, Debug, PartialEq, Eq)]
 pub(crate) struct Compared {
     pub(crate) equal: bool,
     pub(crate) end: usize,
 }
 
-// Compares the piece that begins at start with wanted while its end is looked for: `==` after the end is found takes 1.3 times the time.
+// Compares the first piece with wanted while its end is looked for: `==` after the end is found takes 1.3 times the time.
 // A zero byte ends the piece, also where wanted has one.
-pub(crate) fn compare_piece(blob: &[u8], start: usize, end: usize, wanted: &[u8]) -> Compared
-    requires { (start ≤ end) × (end ≤ length blob.now) }
-    ensures { ComparesPiece blob.now start end wanted.now result }
+pub(crate) fn compare_piece(rest: &[u8], wanted: &[u8]) -> Compared
+    ensures { ComparesPiece rest.now wanted.now result }
 {
     for (n, byte) in wanted.iter().enumerate() {
-        let at = start + n;
-        if at == end {
-            return Compared { equal: false, end };
-        }
-        if blob[at] == 0 {
+        if n == rest.len() || rest[n] == 0 {
             return Compared {
                 equal: false,
-                end: at,
+                end: n,
             };
         }
-        if blob[at] != *byte {
+        if rest[n] != *byte {
             return Compared {
                 equal: false,
-                end: piece_end(blob, at, end),
+                end: piece_end(rest, n),
             };
         }
     }
-    let at = start + wanted.len();
-    let found = piece_end(blob, at, end);
+    let end = piece_end(rest, wanted.len());
     Compared {
-        equal: found == at,
-        end: found,
+        equal: end == wanted.len(),
+        end,
     }
 }
 
 impl<'a> Metadata<'a> {
+    // The name heap from byte start of the blob on.
+    pub(crate) fn heap_at(self, start: usize) -> &'a [u8]
+        requires { start ≤ get_or self.w.offsets 0 0 }
+        ensures { let end = get_or self.entry.w.offsets 0 0 in
+            (result.now ≡ slice start end self.entry.blob.now) × (start + length result.now ≡ end) }
+    {
+        &self.blob[start..self.w.offsets[0]]
+    }
+
+    // The name heap from the piece of a name that is stored on.
+    pub(crate) fn heap_from(self, index: u32) -> &'a [u8]
+        requires { (1 ≤ index) × (index ≤ self.w.names) }
+        ensures { let heap = heap_of self.entry.blob.now (get_or self.entry.w.offsets 0 0) in
+            pieces result.now ≡ drop (index - 1) (pieces heap) }
+    {
+        from_piece(self.heap_at(HEADER), index as usize)
+    }
+
     // The bytes of a name that is declared: none for index 0, else those of piece index.
     pub(crate) fn own_bytes(self, index: u32) -> &'a [u8]
         requires { index ≤ self.w.names }
@@ -158,10 +162,8 @@ impl<'a> Metadata<'a> {
         if index == 0 {
             return &self.blob[0..0];
         }
-        let heap_end = self.w.offsets.o0;
-        let start = piece_start(self.blob, heap_end, index as usize);
-        let end = piece_end(self.blob, start, heap_end);
-        &self.blob[start..end]
+        let rest = self.heap_from(index);
+        &rest[..piece_end(rest, 0)]
     }
 }
 
@@ -170,7 +172,7 @@ pub(crate) fn check_name(w: FileWrapper, index: u32) -> Result<(), MatError>
     ensures { outcome result ≡ check_name w index }
 {
     if w.names < index {
-        return Err(MatError::NameIndexOutOfRange(index as u64));
+        return Err(MatError::NameIndexOutOfRange(u64::from(index)));
     }
     Ok(())
 }

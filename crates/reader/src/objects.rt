@@ -1,9 +1,10 @@
 // The objects of a metadata blob.
-ghost use Rattle.std.specs.Prelude.{◌≡◌, ◌<◌};
+ghost use Rattle.std.specs.Prelude.{◌≡◌, ◌<◌, IfOk};
 ghost use Rattle.text.specs.Replies.{outcome};
+ghost use Rattle.text.specs.Result.{map_result};
 ghost use Rattle.reader.specs.Objects.{region_start, region_blocks, check_block};
 ghost use Rattle.reader.specs.Queries.{check_object, object_record};
-ghost use Rattle.reader.specs.Stages.Objects.{number_of, block_of, row_from, ReadsObject};
+ghost use Rattle.reader.specs.Stages.Objects.{number_of, HasObject, block_of, row_from, ReadsObject};
 
 use crate::blocks::block_after;
 use crate::file_wrapper::{FileWrapper, Metadata};
@@ -64,13 +65,13 @@ pub(crate) fn block_of(object: ObjectRecord) -> BlockId
     }
 }
 
-// The fields of FileWrapper are public, and so no array by Region.
+// No array by Region: C has the offsets by number, and the fields of FileWrapper are public.
 pub(crate) fn region_start(w: FileWrapper, region: Region) -> usize
     ensures { result ≡ region_start w (number_of region) }
 {
     match region {
-        Region::Saved => w.offsets.o1,
-        Region::Normal => w.offsets.o3,
+        Region::Saved => w.offsets[1],
+        Region::Normal => w.offsets[3],
     }
 }
 
@@ -93,7 +94,7 @@ pub(crate) fn check_block(w: FileWrapper, object: ObjectRecord) -> Result<(), Ma
         return Ok(());
     }
     if region_blocks(w, block.region) <= block.id as usize {
-        return Err(MatError::PropertyBlockIdOutOfRange(block.id as u64));
+        return Err(MatError::PropertyBlockIdOutOfRange(u64::from(block.id)));
     }
     Ok(())
 }
@@ -117,38 +118,52 @@ pub(crate) struct LocatedObject {
     pub(crate) at: usize,
 }
 
+// An object that the blob has.
+#[derive(Clone, Copy)]
+pub(crate) struct Object<'a> {
+    pub(crate) metadata: Metadata<'a>,
+    pub(crate) id: u32,
+    ghost there: { HasObject metadata.w id },
+}
+
 impl<'a> Metadata<'a> {
-    // Check 8.
+    ghost use Rattle.reader.specs.declared.objects.Object.{Object};
+
+    // The object of an id: check 8.
     #[tactic(auto, unfolding(crate::specs::Queries::check_object))]
-    pub(crate) fn check_object(self, object_id: u32) -> Result<(), MatError>
-        ensures { outcome result ≡ check_object self.entry.w object_id }
+    pub(crate) fn check_object(self, object_id: u32) -> Result<Object<'a>, MatError>
+        ensures checked { map_result (λ (o : Object). tt) (outcome result) ≡ check_object self.entry.w object_id }
+        ensures is { IfOk result (λ (o : Object). (o.metadata ≡ self.entry) × (o.id ≡ object_id)) }
     {
         if object_id == 0 {
             return Err(MatError::ObjectIdOutOfRange(0));
         }
         if self.w.records <= object_id as usize {
-            return Err(MatError::ObjectIdOutOfRange(object_id as u64));
+            return Err(MatError::ObjectIdOutOfRange(u64::from(object_id)));
         }
-        Ok(())
+        Ok(Object {
+            metadata: self,
+            id: object_id,
+        })
+    }
+}
+
+impl<'a> Object<'a> {
+    pub(crate) fn record(self) -> ObjectRecord
+        ensures { let m = self.entry.metadata in
+            result ≡ object_record m.blob.now m.w self.entry.id }
+    {
+        let at = self.metadata.w.offsets[2] + ObjectRecord::SIZE * self.id as usize;
+        ObjectRecord::read(self.metadata.blob, at)
     }
 
-    // The record of an object that the blob has.
-    pub(crate) fn object_record(self, object_id: u32) -> ObjectRecord
-        requires { object_id < self.w.records }
-        ensures { result ≡ object_record self.entry.blob.now self.entry.w object_id }
+    // Its row, and where its block stands: check 10.
+    pub(crate) fn read(self) -> Result<LocatedObject, MatError>
+        ensures { let m = self.entry.metadata in
+            ReadsObject m.blob.now m.w (object_record m.blob.now m.w self.entry.id) result }
     {
-        let at = self.w.offsets.o2 + ObjectRecord::SIZE * object_id as usize;
-        ObjectRecord::read(self.blob, at)
-    }
-
-    // The object of an id that the blob has: check 10.
-    pub(crate) fn read_object(self, object_id: u32) -> Result<LocatedObject, MatError>
-        requires { object_id < self.w.records }
-        ensures { let b = self.entry.blob.now in
-            ReadsObject b self.entry.w (object_record b self.entry.w object_id) result }
-    {
-        let object = self.object_record(object_id);
-        check_block(self.w, object)?;
+        let object = self.record();
+        check_block(self.metadata.w, object)?;
         let block = block_of(object);
         if block.id == 0 {
             return Ok(LocatedObject {
@@ -156,10 +171,10 @@ impl<'a> Metadata<'a> {
                 at: 0,
             });
         }
-        let start = region_start(self.w, block.region);
-        let at = block_after(self.blob, start, block.id as usize, Triple::SIZE);
+        let start = region_start(self.metadata.w, block.region);
+        let at = block_after(self.metadata.blob, start, block.id as usize, Triple::SIZE);
         Ok(LocatedObject {
-            row: object_row(object, block, read_u32(self.blob, at)),
+            row: object_row(object, block, read_u32(self.metadata.blob, at)),
             at,
         })
     }

@@ -33,26 +33,24 @@ pub fn parse_opaque_metadata(metadata: &[u32]) -> Result<OpaqueMetadata, MatErro
     }
     let magic = metadata[0];
     if magic != MCOS_MAGIC_NUMBER {
-        return Err(MatError::OpaqueMetadataMagic(magic as u64));
+        return Err(MatError::OpaqueMetadataMagic(u64::from(magic)));
     }
     let dimensions = metadata[1] as usize;
     if words < 2 + dimensions + 1 {
         return Err(MatError::OpaqueMetadataDimensionsTruncated(dimensions as u64));
     }
     let first_id = 2 + dimensions;
-    match checked_product(&metadata[2..first_id]) {
-        Ok(product) => {
-            // the product can be close to 2^64, where a sum with it would wrap
-            if (words - 3 - dimensions) as u64 != product {
-                return Err(MatError::OpaqueMetadataSizeMismatch(words as u64));
-            }
-            let ids = to_usize(product);
-            Ok(OpaqueMetadata {
-                first_id,
-                ids,
-                class_id: metadata[first_id + ids],
-            })
-        }
-        Err(i) => Err(MatError::OpaqueMetadataProductOverflow(i as u64)),
+    let product = checked_product(&metadata[2..first_id]).map_err(
+        |i| MatError::OpaqueMetadataProductOverflow(i as u64),
+    )?;
+    // the product can be close to 2^64, where a sum with it would wrap
+    if (words - 3 - dimensions) as u64 != product {
+        return Err(MatError::OpaqueMetadataSizeMismatch(words as u64));
     }
+    let ids = to_usize(product);
+    Ok(OpaqueMetadata {
+        first_id,
+        ids,
+        class_id: metadata[first_id + ids],
+    })
 }

@@ -1,5 +1,5 @@
 // The properties of an object.
-ghost use Rattle.std.specs.Prelude.{◌≡◌, ◌++◌, map, ◌≤◌, ◌<◌, length, drop};
+ghost use Rattle.std.specs.Prelude.{◌≡◌, map, ◌<◌, length};
 ghost use Rattle.text.specs.Replies.{outcome};
 ghost use Rattle.reader.specs.Objects.{triples_from, check_triple, check_triples, row_of, replaced_of, object_properties};
 ghost use Rattle.reader.specs.Stages.Properties.{named_triples, RecordTriples, ReadsTriples};
@@ -10,14 +10,23 @@ ghost use Rattle.reader.specs.Replies.{WritesRows};
 
 use crate::file_wrapper::{FileWrapper, Metadata};
 use crate::names::check_name;
+use crate::objects::Object;
 use crate::records::Triple;
 use crate::replacements::count_replaced;
 use crate::triples::Triples;
 use text::error::MatError;
 
-// A property as five numbers: its name index, its type (0 name, 1 heap, 2 inline), its value, and how many replacement characters stand in
-// its name, and in its value where that is a name, else 0.
-pub const ROW_WIDTH: usize = 5;
+// A property: its name index, its type (0 name, 1 heap, 2 inline), its value, and how many replacement characters stand in its name, and in
+// its value where that is a name, else 0. Five numbers, the type too, as C reads the row.
+#[repr(C)]
+#[derive(Clone, Copy, Debug, Default, PartialEq, Eq)]
+pub struct PropertyRow {
+    pub name_index: u32,
+    pub field_type: u32,
+    pub value: u32,
+    pub name_replaced: u32,
+    pub value_replaced: u32,
+}
 
 // Checks 11 and 12 for one property.
 #[tactic(auto, unfolding(crate::specs::Objects::check_triple))]
@@ -26,7 +35,7 @@ fn check_triple(w: FileWrapper, triple: Triple) -> Result<(), MatError>
 {
     check_name(w, triple.name_idx)?;
     if 2 < triple.field_type {
-        return Err(MatError::UnknownFieldType(triple.field_type as u64));
+        return Err(MatError::UnknownFieldType(u64::from(triple.field_type)));
     }
     if triple.field_type == 0 {
         check_name(w, triple.value)?;
@@ -48,16 +57,16 @@ fn check_triples(metadata: Metadata, start: usize, count: usize) -> Result<(), M
     Ok(())
 }
 
-// Checks 10 to 12 for an object that the blob has.
+// Checks 10 to 12 for an object.
 #[tactic(auto, unfolding(crate::specs::Objects::record_triples, crate::specs::Objects::record_row))]
-pub(crate) fn record_triples(metadata: Metadata, object_id: u32) -> Result<Triples, MatError>
-    requires { object_id < metadata.w.records }
-    ensures { let m = metadata.entry in
-        RecordTriples m (object_record m.blob.now m.w object_id) result }
+pub(crate) fn record_triples(object: Object) -> Result<Triples, MatError>
+    ensures { let m = object.entry.metadata in
+        RecordTriples m (object_record m.blob.now m.w object.entry.id) result }
 {
-    let object = metadata.read_object(object_id)?;
-    let at = object.at + 4;
-    let count = object.row.property_count as usize;
+    let metadata = object.metadata;
+    let located = object.read()?;
+    let at = located.at + 4;
+    let count = located.row.property_count as usize;
     check_triples(metadata, at, count)?;
     Ok(Triples {
         metadata,
@@ -72,23 +81,27 @@ pub(crate) fn object_triples(blob: &[u8], object_id: u32) -> Result<Triples, Mat
     ensures { ReadsTriples blob.now object_id result }
 {
     let metadata = Metadata::open(blob)?;
-    metadata.check_object(object_id)?;
-    record_triples(metadata, object_id)
+    record_triples(metadata.check_object(object_id)?)
 }
 
 // The row of a triple before its names are counted.
-fn row_of(triple: Triple) -> [u32; ROW_WIDTH]
+fn row_of(triple: Triple) -> PropertyRow
     ensures { result ≡ row_of no_count triple }
 {
-    [triple.name_idx, triple.field_type, triple.value, 0, 0]
+    PropertyRow {
+        name_index: triple.name_idx,
+        field_type: triple.field_type,
+        value: triple.value,
+        name_replaced: 0,
+        value_replaced: 0,
+    }
 }
 
 impl<'a> Triples<'a> {
-    // A row for each, at the start of rows.
-    fn put_rows(self, rows: &mut [[u32; ROW_WIDTH]])
-        requires { self.count ≤ length rows.old }
-        ensures { let ts = named_triples self.entry in
-            rows.new ≡ map (row_of no_count) ts ++ drop self.entry.count rows.old }
+    // A row for each.
+    fn put_rows(self, rows: &mut [PropertyRow])
+        requires { length rows.old ≡ self.count }
+        ensures { rows.new ≡ map (row_of no_count) (named_triples self.entry) }
     {
         for i in 0..self.count {
             rows[i] = row_of(self.get(i));
@@ -96,23 +109,19 @@ impl<'a> Triples<'a> {
     }
 
     // The same with the counts of their names.
-    fn write_rows(self, rows: &mut [[u32; ROW_WIDTH]])
-        requires { self.count ≤ length rows.old }
-        ensures { let m = self.entry.metadata in let ts = named_triples self.entry in
-            rows.new ≡ map (row_of (replaced_of m.blob.now m.w)) ts ++ drop self.entry.count rows.old }
+    fn write_rows(self, rows: &mut [PropertyRow])
+        requires { length rows.old ≡ self.count }
+        ensures { let m = self.entry.metadata in
+            rows.new ≡ map (row_of (replaced_of m.blob.now m.w)) (named_triples self.entry) }
     {
         self.put_rows(rows);
-        count_replaced(self.metadata, self.count, rows);
+        count_replaced(self.metadata, rows);
     }
 }
 
 // The properties of an object, a row for each, at the start of rows.
 #[tactic(auto, unfolding(crate::specs::Objects::object_properties, crate::specs::Objects::record_properties, crate::specs::Stages::Properties::object_triples))]
-pub fn properties(
-    blob: &[u8],
-    object_id: u32,
-    rows: &mut [[u32; ROW_WIDTH]],
-) -> Result<usize, MatError>
+pub fn properties(blob: &[u8], object_id: u32, rows: &mut [PropertyRow]) -> Result<usize, MatError>
     ensures { WritesRows (object_properties blob.now object_id) rows.old result rows.new }
 {
     let triples = object_triples(blob, object_id)?;
@@ -120,6 +129,6 @@ pub fn properties(
     if rows.len() < count {
         return Err(MatError::OutputTooShort(count as u64));
     }
-    triples.write_rows(rows);
+    triples.write_rows(&mut rows[..count]);
     Ok(count)
 }

@@ -1,13 +1,12 @@
 // How many replacement characters the names of property rows are shown with.
-ghost use Rattle.std.specs.Prelude.{◌≡◌, ◌++◌, map, ◌+◌, ◌≤◌, length, take, drop};
+ghost use Rattle.std.specs.Prelude.{◌≡◌, map, cond};
 ghost use Rattle.reader.specs.Names.{shown_bytes};
-ghost use Rattle.reader.specs.Stages.Chunks.{ToNames};
-ghost use Rattle.reader.specs.Stages.Replacements.{recounted, CountsChunk, SoundNames, CountsRows};
+ghost use Rattle.reader.specs.Stages.Replacements.{recounted, SoundNames, CountsRows};
 
-use crate::chunks::{CHUNK, Chunk, Look, Looked, read_chunk};
+use crate::chunks::{CHUNK, Chunk, Look, Looked, NameWalk};
 use crate::file_wrapper::{HEADER, Metadata};
 use crate::names::{piece_end, shown_size};
-use crate::properties::ROW_WIDTH;
+use crate::properties::PropertyRow;
 use text::utf8::validate;
 
 // How many replacement characters a name is shown with.
@@ -30,66 +29,47 @@ impl Look for Replaced {
                 next: start,
             };
         }
-        let end = piece_end(metadata.blob, start, metadata.w.offsets.o0);
-        let replaced = shown_size(&metadata.blob[start..end]).replaced as u32;
+        let rest = metadata.heap_at(start);
+        let end = piece_end(rest, 0);
+        let replaced = shown_size(&rest[..end]).replaced as u32;
         Looked {
             value: replaced,
             any: 0 < replaced,
-            next: end + 1,
+            next: start + end + 1,
         }
     }
 }
 
 // A row with the counts of the names of a chunk put in: that of its name, and that of its value where it is a name.
 #[tactic(auto, unfolding(crate::specs::Stages::Replacements::recounted))]
-fn recount(row: [u32; ROW_WIDTH], counts: &[u32; CHUNK], chunk: Chunk) -> [u32; ROW_WIDTH]
+fn recount(row: PropertyRow, counts: &[u32; CHUNK], chunk: Chunk) -> PropertyRow
     ensures { result ≡ recounted counts.now chunk.first chunk.end row }
 {
-    let name = chunk.get_or(counts, row[0], row[3]);
-    let value = if row[1] == 0 {
-        chunk.get_or(counts, row[2], row[4])
-    } else {
-        row[4]
-    };
-    [row[0], row[1], row[2], name, value]
+    let name_replaced = chunk.get_or(counts, row.name_index, row.name_replaced);
+    let is_name = row.field_type == 0;
+    if is_name {
+        return PropertyRow {
+            name_replaced,
+            value_replaced: chunk.get_or(counts, row.value, row.value_replaced),
+            ..row
+        };
+    }
+    PropertyRow {
+        name_replaced,
+        ..row
+    }
 }
 
-// The same for the first count rows.
-fn recount_rows(counts: &[u32; CHUNK], chunk: Chunk, count: usize, rows: &mut [[u32; ROW_WIDTH]])
-    requires { count ≤ length rows.old }
-    ensures { let old = rows.old in
-        rows.new ≡ map (recounted counts.now chunk.first chunk.end) (take count old) ++ drop count old }
+// The same for all rows, where a name of the chunk has a replacement character.
+fn recount_rows(counts: &[u32; CHUNK], chunk: Chunk, rows: &mut [PropertyRow])
+    ensures { let all = map (recounted counts.now chunk.first chunk.end) rows.old in
+        rows.new ≡ cond chunk.any all rows.old }
 {
-    for i in 0..count {
+    if !chunk.any {
+        return;
+    }
+    for i in 0..rows.len() {
         rows[i] = recount(rows[i], counts, chunk);
-    }
-}
-
-// Names below name have been counted; name begins at start.
-#[derive(Clone, Copy, Debug, PartialEq, Eq)]
-struct CountWalk {
-    name: usize,
-    start: usize,
-}
-
-// Counts a chunk of names, and if one of them has a replacement character, goes over the rows.
-fn count_chunk(
-    metadata: Metadata,
-    walk: CountWalk,
-    count: usize,
-    rows: &mut [[u32; ROW_WIDTH]],
-) -> CountWalk
-    requires { ToNames metadata walk.name (walk.name + 1) walk.start × (count ≤ length rows.old) }
-    ensures { CountsChunk metadata.entry count walk result rows.old rows.new }
-{
-    let mut counts = [0; CHUNK];
-    let chunk = read_chunk(Replaced {}, metadata, walk.name, walk.start, &mut counts);
-    if chunk.any {
-        recount_rows(&counts, chunk, count, rows);
-    }
-    CountWalk {
-        name: chunk.end,
-        start: chunk.next,
     }
 }
 
@@ -100,28 +80,26 @@ fn is_sound(metadata: Metadata) -> bool
     if metadata.w.names == 0 {
         return true;
     }
-    validate(&metadata.blob[HEADER..metadata.w.offsets.o0]).is_ok()
+    validate(&metadata.blob[HEADER..metadata.w.offsets[0]]).is_ok()
 }
 
-// Puts the counts of their names into the first count rows, which hold none. Names are sound as a rule, and then nothing is counted; else
-// the heap is walked once, and the rows are gone over once for each chunk of names in which there is a replacement character.
+// Puts the counts of their names into rows, which hold none. Names are sound as a rule, and then nothing is counted; else the heap is walked
+// once, and the rows are gone over once for each chunk of names in which there is a replacement character.
 // A `while`, since a chunk tells where the next begins.
-pub(crate) fn count_replaced(metadata: Metadata, count: usize, rows: &mut [[u32; ROW_WIDTH]])
-    requires { count ≤ length rows.old }
-    ensures { CountsRows metadata.entry count rows.old rows.new }
+pub(crate) fn count_replaced(metadata: Metadata, rows: &mut [PropertyRow])
+    ensures { CountsRows metadata.entry rows.old rows.new }
 {
-    if count == 0 {
+    if rows.is_empty() {
         return;
     }
     if is_sound(metadata) {
         return;
     }
     let names = metadata.w.names as usize;
-    let mut walk = CountWalk {
-        name: 0,
-        start: HEADER,
-    };
+    let mut counts = [0; CHUNK];
+    let mut walk = NameWalk::new(metadata);
     while walk.name <= names {
-        walk = count_chunk(metadata, walk, count, rows);
+        let chunk = walk.next_chunk(Replaced {}, &mut counts);
+        recount_rows(&counts, chunk, rows);
     }
 }

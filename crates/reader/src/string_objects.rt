@@ -1,5 +1,5 @@
 // String objects of a metadata blob, and the strings that they lead to in a cell store.
-ghost use Rattle.std.specs.Prelude.{◌≡◌, [], ◌∷◌, ◌<◌, length};
+ghost use Rattle.std.specs.Prelude.{◌≡◌, [], ◌∷◌, length};
 ghost use Rattle.text.specs.Replies.{outcome};
 ghost use Rattle.text.specs.Result.{ok};
 ghost use Rattle.reader.specs.Stages.Cells.{of_cells};
@@ -10,20 +10,20 @@ ghost use Rattle.reader.specs.Replies.{DecodesStrings};
 
 use crate::cells::Cells;
 use crate::file_wrapper::Metadata;
+use crate::objects::Object;
 use crate::properties::record_triples;
 use crate::records::Triple;
 use crate::saveobj::{DecodedSize, decode_string_saveobj};
 use text::error::MatError;
 
 // The property that leads to a string object's cell: the one named any, else the first. An object without properties has none. Checks 10 to
-// 12 for an object that the blob has. A name is shown as any exactly where it is stored so, and stored bytes are compared.
+// 12. A name is shown as any exactly where it is stored so, and stored bytes are compared.
 #[tactic(auto, unfolding(crate::specs::Stages::StringObjects::chosen_property))]
-fn choose_property(metadata: Metadata, object_id: u32) -> Result<Option<Triple>, MatError>
-    requires { object_id < metadata.w.records }
-    ensures { let m = metadata.entry in
-        outcome result ≡ chosen_property m.blob.now m.w (object_record m.blob.now m.w object_id) }
+fn choose_property(object: Object) -> Result<Option<Triple>, MatError>
+    ensures { let m = object.entry.metadata in
+        outcome result ≡ chosen_property m.blob.now m.w (object_record m.blob.now m.w object.entry.id) }
 {
-    let triples = record_triples(metadata, object_id)?;
+    let triples = record_triples(object)?;
     if triples.count == 0 {
         return Ok(None);
     }
@@ -35,10 +35,9 @@ fn choose_property(metadata: Metadata, object_id: u32) -> Result<Option<Triple>,
 fn string_property(metadata: Metadata, object_id: u32) -> Result<Option<Triple>, MatError>
     ensures { outcome result ≡ string_property metadata.entry.blob.now metadata.entry.w object_id }
 {
-    metadata.check_object(object_id)?;
-    let class_id = metadata.object_record(object_id).class_id;
-    metadata.check_string_class(class_id)?;
-    choose_property(metadata, object_id)
+    let object = metadata.check_object(object_id)?;
+    metadata.check_string_class(object.record().class_id)?;
+    choose_property(object)
 }
 
 // The strings of the cell that a property leads to: checks 16, 14 and 15, then those of its payload.

@@ -22,73 +22,60 @@ pub(crate) fn unit_at(words: &[u64], first: usize, k: usize) -> u16
 pub(crate) fn is_surrogate(unit: u16) -> bool
     ensures { result ≡ is_surrogate unit }
 {
-    0xD800 <= unit && unit <= 0xDFFF
+    (0xD800..=0xDFFF).contains(&unit)
 }
 
 // Whether a unit and the one after it are a surrogate pair.
 pub(crate) fn is_pair(unit: u16, next: u16) -> bool
     ensures { result ≡ (is_high_surrogate unit && is_low_surrogate next) }
 {
-    if unit < 0xD800 {
-        return false;
-    }
-    if 0xDBFF < unit {
-        return false;
-    }
-    0xDC00 <= next && next <= 0xDFFF
+    (0xD800..=0xDBFF).contains(&unit) && (0xDC00..=0xDFFF).contains(&next)
 }
 
-// Writes the two bytes of a unit from 0x80 on and below 0x800 into out from index at on, and returns the index after them. It and the two
-// below stand beside text's put_utf8 for speed: put_text knows the size of a unit already, and they stay in 16 bits.
-fn put_two(unit: u16, out: &mut [u8], at: usize) -> usize
-    requires { TwoFit unit at (length out.old) }
-    ensures { Puts out.old at (utf8 unit) result out.new }
+// Writes the two bytes of a unit from 0x80 on and below 0x800 at the start of out, and returns how many they are. It and the two below stand
+// beside text's put_utf8 for speed: put_text knows the size of a unit already, and they stay in 16 bits.
+fn put_two(unit: u16, out: &mut [u8]) -> usize
+    requires { TwoFit unit (length out.old) }
+    ensures { Puts out.old 0 (utf8 unit) result out.new }
 {
-    out[at] = (0xC0 + unit / 64) as u8;
-    out[at + 1] = (0x80 + unit % 64) as u8;
-    at + 2
+    out[0] = (0xC0 + unit / 64) as u8;
+    out[1] = (0x80 + unit % 64) as u8;
+    2
 }
 
 // Writes the three bytes of a unit from 0x800 on.
-fn put_three(unit: u16, out: &mut [u8], at: usize) -> usize
-    requires { ThreeFit unit at (length out.old) }
-    ensures { Puts out.old at (utf8 unit) result out.new }
+fn put_three(unit: u16, out: &mut [u8]) -> usize
+    requires { ThreeFit unit (length out.old) }
+    ensures { Puts out.old 0 (utf8 unit) result out.new }
 {
-    out[at] = (0xE0 + unit / 4096) as u8;
-    out[at + 1] = (0x80 + unit / 64 % 64) as u8;
-    out[at + 2] = (0x80 + unit % 64) as u8;
-    at + 3
+    out[0] = (0xE0 + unit / 4096) as u8;
+    out[1] = (0x80 + unit / 64 % 64) as u8;
+    out[2] = (0x80 + unit % 64) as u8;
+    3
 }
 
 // Writes the four bytes of a surrogate pair.
-fn put_pair(high: u16, low: u16, out: &mut [u8], at: usize) -> usize
-    requires { PairFits high low at (length out.old) }
-    ensures { Puts out.old at (utf8 (pair_value high low)) result out.new }
+fn put_pair(high: u16, low: u16, out: &mut [u8]) -> usize
+    requires { PairFits high low (length out.old) }
+    ensures { Puts out.old 0 (utf8 (pair_value high low)) result out.new }
 {
-    let value = 0x10000 + (high as u32 - 0xD800) * 1024 + (low as u32 - 0xDC00);
-    out[at] = (0xF0 + value / 262144) as u8;
-    out[at + 1] = (0x80 + value / 4096 % 64) as u8;
-    out[at + 2] = (0x80 + value / 64 % 64) as u8;
-    out[at + 3] = (0x80 + value % 64) as u8;
-    at + 4
+    let value = 0x10000 + (u32::from(high) - 0xD800) * 1024 + (u32::from(low) - 0xDC00);
+    out[0] = (0xF0 + value / 262144) as u8;
+    out[1] = (0x80 + value / 4096 % 64) as u8;
+    out[2] = (0x80 + value / 64 % 64) as u8;
+    out[3] = (0x80 + value % 64) as u8;
+    4
 }
 
-// Writes the text of the n units from unit k on into out from index at on, and returns the index after it. They were measured, so that
-// the bytes fit, and a surrogate is the first of a pair.
+// Writes the text of the n units from unit k on at the start of out, and returns how many bytes it has. They were measured, so that they
+// fit, and a surrogate is the first of a pair.
 // text's decode_utf16 takes a slice of units, which there is no memory to unpack here. A `while`, since a step takes one unit or two.
-pub(crate) fn put_text(
-    words: &[u64],
-    first: usize,
-    k: usize,
-    n: usize,
-    out: &mut [u8],
-    at: usize,
-) -> usize
-    requires { UnitsFit words.now first k n at (length out.old) }
-    ensures { Puts out.old at (the_text (units_in words.now first k n)) result out.new }
+pub(crate) fn put_text(words: &[u64], first: usize, k: usize, n: usize, out: &mut [u8]) -> usize
+    requires { UnitsFit words.now first k n (length out.old) }
+    ensures { Puts out.old 0 (the_text (units_in words.now first k n)) result out.new }
 {
     let end = k + n;
-    let mut o = at;
+    let mut o: usize = 0;
     let mut i = k;
     while i < end {
         let unit = unit_at(words, first, i);
@@ -99,14 +86,14 @@ pub(crate) fn put_text(
             continue;
         }
         if unit < 0x800 {
-            o = put_two(unit, out, o);
+            o += put_two(unit, &mut out[o..]);
             continue;
         }
         if !is_surrogate(unit) {
-            o = put_three(unit, out, o);
+            o += put_three(unit, &mut out[o..]);
             continue;
         }
-        o = put_pair(unit, unit_at(words, first, i), out, o);
+        o += put_pair(unit, unit_at(words, first, i), &mut out[o..]);
         i += 1;
     }
     o
@@ -118,7 +105,7 @@ pub(crate) fn is_packed(words: &[u64], first: usize, n: usize) -> bool
     requires { (first ≤ length words.now) × (n ≤ 4 * (length words.now - first)) }
     ensures { result ≡ is_packed words.now first n }
 {
-    if words.len() != first + (n + 3) / 4 {
+    if words.len() != first + n.div_ceil(4) {
         return false;
     }
     if n % 4 == 0 {

@@ -7,16 +7,10 @@ use reader::file_wrapper::FileWrapper;
 use reader::labels;
 use reader::labels::Source;
 use std::io;
-use text::error::MatError;
 
 // A blob with no classes and no objects and three names: a sound one, an empty one, and one whose last character is cut off.
 const SAMPLE: [u8; 60] =
     *b"\x04\0\0\0\x03\0\0\0\x3C\0\0\0\x3C\0\0\0\x3C\0\0\0\x3C\0\0\0\x3C\0\0\0\x3C\0\0\0\x3C\0\0\0\x3C\0\0\0Tankgeber\0\0Pegel \xE2\x84\0";
-
-fn print_refusal(rt: &impl Print, e: MatError) -> io::Result<()> {
-    let failure = e.failure();
-    print!(rt; " refused {} {}", failure.number, failure.place)
-}
 
 // The buffer of a label, and the label.
 // A match and no Display, which would take a type of this program's own for one use.
@@ -32,7 +26,7 @@ fn print_label<'a>(
             Source::Blob => print!(rt; " blob ")?,
             Source::Placeholder => print!(rt; " placeholder ")?,
         },
-        Err(e) => print_refusal(rt, e)?,
+        Err(e) => print!(rt; " {e}")?,
     }
     rt.write_all(labels::label(blob, placeholder, index))?;
     println!(rt)
@@ -68,10 +62,6 @@ fn main(rt: HostRuntime) -> io::Result<()> {
     print_repaired(&rt)?;
     match FileWrapper::parse(&SAMPLE) {
         Ok(w) => print_labels(&rt, &SAMPLE, b"(unnamed)", w.names),
-        Err(e) => {
-            print!(rt; "sample")?;
-            print_refusal(&rt, e)?;
-            println!(rt)
-        }
+        Err(e) => println!(rt; "sample {e}"),
     }
 }

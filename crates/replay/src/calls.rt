@@ -6,11 +6,10 @@ use reader::classes::{class_name, object_class_name};
 use reader::decode::decode_string;
 use reader::file_wrapper::FileWrapper;
 use reader::find::find_property;
-use reader::listing::list_objects;
+use reader::listing::list_eight;
 use reader::names::name;
-use reader::objects::ObjectRow;
 use reader::opaque::parse_opaque_metadata;
-use reader::properties::{ROW_WIDTH, properties};
+use reader::properties::{PropertyRow, properties};
 use reader::saveobj::{DecodedSize, decode_string_saveobj};
 use reader::string_objects::decode_string_object;
 use std::convert::AsSlice;
@@ -19,17 +18,8 @@ use text::utf8::{LossySize, write_lossy};
 use text::utf16::decode_utf16;
 use writer::string_object::{build_string_filewrapper_metadata, encode_string_saveobj_payload};
 
-// The property rows and the object rows that are lent.
+// The property rows that are lent.
 const ROWS: usize = 512;
-
-const OBJECTS: usize = 8;
-
-const NO_OBJECT: ObjectRow = ObjectRow {
-    class_id: 0,
-    region: 0,
-    block_id: 0,
-    property_count: 0,
-};
 
 // Holds a call to the line that writes bytes to a buffer of zeros.
 pub fn says_bytes(
@@ -164,11 +154,20 @@ pub fn wordlist(mut fields: Fields<'_>) -> Result<(), Fault> {
 // props BLOB id rows-length
 pub fn props(mut fields: Fields<'_>) -> Result<(), Fault> {
     let mut blob = zeros();
-    let mut rows = [[0; ROW_WIDTH]; ROWS];
+    let mut rows = [PropertyRow::default(); ROWS];
     let blob = fields.bytes(&mut blob)?;
     let id = fields.number()?;
-    let rows = fields.lent(&mut rows)?;
-    says_rows(fields, properties(blob, id, rows), rows)
+    let reply = properties(blob, id, fields.lent(&mut rows)?);
+    let rows = rows.map(|row| {
+        [
+            row.name_index,
+            row.field_type,
+            row.value,
+            row.name_replaced,
+            row.value_replaced,
+        ]
+    });
+    says_rows(fields, reply, &rows)
 }
 
 // find BLOB id WANTED
@@ -245,13 +244,12 @@ pub fn road2(mut fields: Fields<'_>) -> Result<(), Fault> {
     })
 }
 
-// objects BLOB rows-length, where eight rows are enough: so many are lent.
+// objects BLOB rows-length, where eight rows are enough.
 pub fn objects(mut fields: Fields<'_>) -> Result<(), Fault> {
     let mut blob = zeros();
-    let mut rows = [NO_OBJECT; OBJECTS];
     let blob = fields.bytes(&mut blob)?;
     fields.take();
-    let reply = list_objects(blob, &mut rows);
-    let rows = rows.map(|row| [row.class_id, row.region, row.block_id, row.property_count]);
-    says_rows(fields, reply, &rows)
+    let list = list_eight(blob);
+    let rows = list.rows.map(|row| [row.class_id, row.region, row.block_id, row.property_count]);
+    says_rows(fields, list.reply, &rows)
 }

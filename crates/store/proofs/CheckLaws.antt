@@ -1,6 +1,6 @@
 -- The outcomes of the checks of an edit.
 -- Assumes nothing.
-use Prim.Native.Nat.{ℕ, suc, ◌+◌, ◌-◌, ◌*◌, ◌/◌, ◌%◌, ◌^◌, ◌≤◌, ◌<◌}
+use Prim.Native.Nat.{ℕ, suc, ◌+◌, ◌-◌, ◌*◌, ◌/◌, ◌%◌, ◌≤◌, ◌<◌}
 use mathlib.Core.Path.{◌≡◌, sym, ap, subst, ◌∙◌}
 use mathlib.Core.Bool.{Bool, true, false, ◌&&◌}
 use mathlib.Core.List.{List}
@@ -100,9 +100,6 @@ pub record Walks (d w : List ℕ) (n i end : ℕ) : Type 0 where
   pub inside : end ≤ length w
   pub rest : cells_walk d w 0 n 0 ≡ cells_walk d w i (n - i) end
 
-pub walks_start : (d w : List ℕ) (n : ℕ) → Walks d w n 0 0
-walks_start d w n = record { bound = omega arith; inside = omega arith; rest = let e : n - 0 ≡ n = omega arith in rw e }
-
 module _ (d w : List ℕ) (n i end : ℕ) (v : Walks d w n i end) where
   next : i < n → cells_walk d w 0 n 0 ≡ eqb (offset_at d i) end && (is_canonical_payload (string_at w d i) && cells_walk d w (i + 1) (n - (i + 1)) (end + length_at d i))
   unfolding cells_walk
@@ -121,12 +118,6 @@ module _ (d w : List ℕ) (n i end : ℕ) (v : Walks d w n i end) where
 
 -- the cell that the walk looks at next
 module _ (d w : List ℕ) (n i end : ℕ) (c : CellsInside d (length w) n) (v : Walks d w n i end) (h : i < n) {start len : ℕ} (s : start ≡ offset_at d i) (l : len ≡ length_at d i) where
-  pub cell_ends : start + len ≤ length w
-  cell_ends = omega (arith, c.inside i h)
-
-  pub cell_adds : length w * 8 < 2 ^ 63 → start + len < 2 ^ 64
-  cell_adds k = omega (arith, cell_ends)
-
   module _ (e : start ≡ end) {b : Bool} (p : b ≡ is_canonical_payload (take (start + len - start) (drop start w))) where
     cell_is : b ≡ is_canonical_payload (string_at w d i)
     cell_is =
@@ -142,9 +133,9 @@ module _ (d w : List ℕ) (n i end : ℕ) (c : CellsInside d (length w) n) (v : 
     walks_not k = rw (walk_is, k)
 
     pub walks_turn : b ≡ true → Walks d w n (i + 1) (start + len)
-    walks_turn k = record { bound = omega arith; inside = cell_ends; rest = walk_is ∙ rw k }
+    walks_turn k = record { bound = omega arith; inside = omega (arith, c.inside i h); rest = walk_is ∙ rw k }
 
-pub ruleset walking = (walks_start, walks_apart, walks_last, cell_ends, cell_adds, walks_not, walks_turn)
+pub ruleset walking = (walks_apart, walks_last, walks_not, walks_turn)
 
 -- ---- 33 and 13
 
@@ -211,7 +202,7 @@ pub old_inside : {s : Store} {k : Kind} → StoreChecked s → IdInside s.object
     → length_at s.directory j ≤ s.used_words
 old_inside {s} {k} t i {id} e j = rw j (old_within s (stored_arrays (counted s)) t.canonical id (rw e at i))
 
-pub array_checked : (a : StringArray) {n : ℕ} → ok n ≡ measured_payload a.dims.now a.text.now a.spans.now → ArrayChecked a n
+array_checked : (a : StringArray) {n : ℕ} → ok n ≡ measured_payload a.dims.now a.text.now a.spans.now → ArrayChecked a n
 array_checked a {n} e =
     let p = measured_passed a.dims.now a.text.now a.spans.now e in
     record { is = p.0; long = sym p.1; most = omega (arith, p.1, (array_passed a.dims.now a.text.now a.spans.now p.0).words) }

@@ -220,7 +220,7 @@ module _ {l : Lengths} {xs : List Array} {s : Store} (k : Holds l xs s) (e : Edi
   holds_by (ok ys) q = lays k (candidate_fits l xs e k.accepted q)
   holds_by (error n) q = k
 
-  pub holds_next : Holds l (list_after xs (candidate l xs e)) (store_after s (call s e))
+  holds_next : Holds l (list_after xs (candidate l xs e)) (store_after s (call s e))
   holds_next = rw (same_call k e) (holds_by (candidate l xs e) refl)
 
 -- from any store that holds arrays

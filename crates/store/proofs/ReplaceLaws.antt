@@ -22,7 +22,7 @@ use Rattle.store.specs.Store.{Store, serialize, counted, stored_arrays}
 use Rattle.store.specs.Model.{call}
 use Rattle.store.specs.Moves.{spliced, shifted}
 use Rattle.store.specs.Replies.{store_with, edit_in, Edits}
-use Rattle.store.specs.Stages.{array_lent, ArrayFits, WordsFit, ReplacesWords, PairFits, Passes}
+use Rattle.store.specs.Stages.{array_lent, WordsFit, ReplacesWords, PairFits, Passes}
 use Rattle.store.proofs.AppendLaws.{objects_fit, bytes_fit, words_fit}
 use Rattle.store.proofs.CallLaws.{old_is}
 use Rattle.store.proofs.CanonicalLaws.{store_path}
@@ -38,9 +38,6 @@ length_shifted d i zero old new = refl
 length_shifted d i (suc n) old new = length_shifted (set d (2 * i) (offset_at d i - old + new)) (suc i) n old new ∙ length-set d (2 * i) (offset_at d i - old + new)
 
 module _ (used at old len : ℕ) (w : List ℕ) (a : StringArray) (f : WordsFit used at old len (length w) a) where
-  pub array_fits : {room : ℕ} → room ≡ length w → ArrayFits a at room
-  array_fits e = record { passed = f.array.is; fits = omega (arith, f.array.long, f.inside, f.fits, e) }
-
   -- w1 after the move, w2 with the payload, and zeros from the new end up to m
   pub words_replaced : {w1 w2 zs : List ℕ} {m : ℕ} → w1 ≡ paste w (at + len) (drop (at + old) w) (used - (at + old)) → w2 ≡ put w1 at (payload (array_lent a))
       → length w2 ≡ length w → m ≡ max (used - old + len) used → zs ≡ replicate (length (mid_of (used - old + len) (m - (used - old + len)) w2)) 0

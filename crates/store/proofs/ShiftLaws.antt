@@ -21,9 +21,6 @@ pub record Shifting (d₀ : List ℕ) (first n old new : ℕ) (d : List ℕ) (i 
   pub long : length d ≡ length d₀
   pub so_far : shifted d i (n - i) old new ≡ shifted d₀ first (n - first) old new
 
-pub shift_start : (d : List ℕ) (first n old new : ℕ) → Shiftable d first n old new → Shifting d first n old new d first
-shift_start d first n old new s = record { shiftable = s; long = refl; so_far = refl }
-
 module _ (d₀ : List ℕ) (first n old new : ℕ) (d : List ℕ) (i : ℕ) (m : Shifting d₀ first n old new d i) where
   pub shift_after : i < n → old ≤ offset_at d i
   shift_after h = m.shiftable.after i (omega arith) h
@@ -53,7 +50,7 @@ module _ (d₀ : List ℕ) (first n old new : ℕ) (d : List ℕ) (i : ℕ) (m :
       let e : n - i ≡ 0 = omega arith in
       rw e at m.so_far
 
-pub ruleset shifting = (shift_start, shift_after, shift_fits, shift_turn, shift_last)
+pub ruleset shifting = (shift_after, shift_fits, shift_turn, shift_last)
 
 -- ---- spans end to end
 

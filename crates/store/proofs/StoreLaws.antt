@@ -32,13 +32,13 @@ both s t e f = rw (e, f)
 -- ---- one array
 
 module _ {a : Array} (w : Accepted a) where
-  pub decoded_payload : decoded_array (payload a) ≡ a
+  decoded_payload : decoded_array (payload a) ≡ a
   unfolding payload
   decoded_payload =
       ap₂ (λ (d : List ℕ) (ss : List (List ℕ)). record { dims = d; strings = ss }) (take_at a.dims (string_words a.strings) (length a.dims) refl)
       (ap values_of (accepted_decodes w))
 
-  pub canonical_payload : is_canonical_payload (payload a) ≡ true
+  canonical_payload : is_canonical_payload (payload a) ≡ true
   unfolding is_canonical_payload
   canonical_payload =
       both (is_ok (decode_payload (payload a))) (same (payload (decoded_array (payload a))) (payload a)) (ap is_ok (accepted_decodes w))

@@ -90,7 +90,7 @@ execute s (e ∷ es) = record {
 -- the object's own property"
 pub record ReadsBack (s : Store) (id : ℕ) (a : Array) : Type 0 where
   pub class : (room : ℕ) → length string_name ≤ room → into_text (object_class_text s.blob id) room ≡ ok (sound_text string_name)
-  pub property : (room : ℕ) → 1 ≤ room → into_output (object_properties s.blob id) room ≡ ok ((1 ∷ 1 ∷ (id - 1) ∷ 0 ∷ 0 ∷ []) ∷ [])
+  pub property : (room : ℕ) → 1 ≤ room → into_output (object_properties s.blob id) room ≡ ok ((record { name_index = 1; field_type = 1; value = id - 1; name_replaced = 0; value_replaced = 0 }) ∷ [])
   pub name : (room : ℕ) → length any_name ≤ room → into_text (name_text s.blob 1) room ≡ ok (sound_text any_name)
   pub by_metadata :
       (metadata : List ℕ) {m : OpaqueMetadata} → opaque_metadata metadata ≡ ok m → m.ids ≡ 1 → get_or metadata m.first_id 0 ≡ id

@@ -47,6 +47,7 @@ impl<'a> StoreRef<'a> {
     }
 
     // Whether the cells lie end to end in all of the words, each a canonical payload.
+    #[tactic(auto, using(crate::proofs::CheckLaws::walking))]
     fn are_cells_canonical(self) -> bool
         requires { CellsInside self.directory.now (length self.words.now) self.counts.objects }
         ensures { let s = store_in self.entry in result ≡ cells_walk s.directory s.words 0 s.objects 0 }

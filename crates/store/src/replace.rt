@@ -33,6 +33,7 @@ fn replace_words(
 
 // Adds new - old to the offset of each pair from first up to n. The cells stand end to end, so those after one whose length was old and
 // becomes new begin that much later or earlier.
+#[tactic(auto, using(crate::proofs::ShiftLaws::shifting))]
 fn shift_offsets(directory: &mut [u64], first: usize, n: usize, old: u64, new: u64)
     requires { Shiftable directory.old first n old new }
     ensures { directory.new ≡ shifted directory.old first (n - first) old new }

@@ -8,8 +8,8 @@ use native.Mathlib.Omega.{arith}
 use borrow.Author.Tests.{le-leb, lt-leb, leb-true, leb-false}
 use borrow.Rule.Slice.PartMut.{mid_of, put_mid}
 use lib.Dec.{leb}
-use lib.ListN.{length, get_or, take, drop, set, length-append, length-take, length-drop, take-append-drop}
-use lib.Seq.{length-take-le, take_all, take_at, take-set-le, drop_at, drop-length, set_at, set_split, drop-cons, drop-drop, append_snoc, take-suc, drop-append-le, slice}
+use lib.ListN.{length, take, drop, set, length-append, length-take, length-drop, take-append-drop}
+use lib.Seq.{length-take-le, take_all, take_at, drop_at, drop-length, set_at, drop-cons, drop-drop, append_snoc}
 use Rattle.text.specs.Buffer.{over, put, Puts, placed, placed_end, Places}
 use Rattle.text.proofs.TestLaws.{either}
 
@@ -53,7 +53,7 @@ module _ (d : List ℕ) (at : ℕ) (w : List ℕ) (room : at + length w ≤ leng
   unfolding put
   take_put = take_at (take at d ++ w) _ _ head_length
 
-  pub drop_put : drop (at + length w) (put d at w) ≡ drop (at + length w) d
+  drop_put : drop (at + length w) (put d at w) ≡ drop (at + length w) d
   unfolding put
   drop_put = drop_at (take at d ++ w) _ _ head_length
 
@@ -84,19 +84,6 @@ put_more d at w x o e h =
     ∙ ap (λ (i : ℕ). take at d ++ (w ++ x) ++ drop i d) n
     ∙ sym (put_is d at (w ++ x)))
 
--- a store right after where a text goes is one element more of the text
-pub put_before : (d : List ℕ) (at : ℕ) (w : List ℕ) (x i : ℕ) → i ≡ at + length w → i < length d → put (set d i x) at w ≡ put d at (w ++ x ∷ [])
-unfolding put
-put_before d at w x i e h =
-    let rest : List ℕ = drop (suc i) d in
-    let n : suc i ≡ at + length (w ++ x ∷ []) = omega (arith, length-append w (x ∷ [])) in
-    rw (sym e)
-    (ap₂ (λ (p q : List ℕ). p ++ w ++ q) (take-set-le at d i x (omega arith))
-    (ap (drop i) (set_split d i x h) ∙ drop_at (take i d) (x ∷ rest) i (length-take-le i d (omega arith)))
-    ∙ sym (append_snoc (take at d ++ w) x rest)
-    ∙ ap (λ (r : List ℕ). r ++ rest) (append_assoc (take at d) w (x ∷ []))
-    ∙ ap (λ (k : ℕ). take at d ++ (w ++ x ∷ []) ++ drop k d) n)
-
 -- a text at the start of the part of a buffer from an index on
 pub part_put : (d w : List ℕ) (at : ℕ) {n : ℕ} {part' : List ℕ} → at + length w ≤ length d → Puts (mid_of at (length d - at) d) 0 w n part'
     → put_mid at (length d - at) d part' ≡ put d at w
@@ -108,15 +95,6 @@ part_put d w at {part' = part'} h p =
     let none : drop k (drop at d) ≡ [] = drop-drop k at d ∙ rw end (drop-length d) in
     let e : part' ≡ over w (mid_of at k d) = p.buffer ∙ put_front (mid_of at k d) w in
     rw (none, append-nil part', e, all, drop-drop (length w) at d) (sym (append_assoc (take at d) w (drop (at + length w) d)))
-
--- one element more of a part
-pub slice_more : (s : List ℕ) (f i : ℕ) → f ≤ i → i < length s → slice f (i + 1) s ≡ slice f i s ++ get_or s i 0 ∷ []
-slice_more s f i a b =
-    let e : i + 1 ≡ suc i = omega arith in
-    let l : length (take i s) ≡ i = length-take-le i s (omega arith) in
-    ap (λ (k : ℕ). drop f (take k s)) e
-    ∙ ap (drop f) (take-suc s i 0 b)
-    ∙ drop-append-le f (take i s) (get_or s i 0 ∷ []) (omega arith)
 
 -- ---- A loop that writes the text `all` to the start of a buffer: d₀ is the buffer as it was, d as it is, o how many bytes are written, and rest what is still to write
 pub record SoFar (all rest d₀ d : List ℕ) (o : ℕ) : Type 0 where
@@ -198,7 +176,7 @@ placed_nothing d i =
 -- ---- the same from an index on: what stands before it is the part that is written already
 
 module _ (d w : List ℕ) (at : ℕ) (room : at + length w ≤ length d) where
-  pub length_from : length (take at d ++ w) ≡ at + length w
+  length_from : length (take at d ++ w) ≡ at + length w
   length_from = omega (arith, length-append (take at d) w, length-take-le at d (omega arith))
 
   pub fits_from : length (take at d ++ w) ≤ length d

@@ -114,7 +114,7 @@ module _ (v : ℕ) where
     is_written = either (is_scalar v) (λ e. e) (λ e. let z : n ≡ 0 = simp e at size.0 in absurd (some z))
 
     module _ (d : List ℕ) (at : ℕ) (h : n ≤ length d) (k : at ≤ length d - n) where
-      pub put_room : at + length (utf8 v) ≤ length d
+      put_room : at + length (utf8 v) ≤ length d
       put_room = omega (arith, ap length (encoded_is v is_written))
 
       pub put_done : {e : ℕ} {d' : List ℕ} → (e ≡ at + length (utf8 v)) × (d' ≡ put d at (utf8 v)) → Places d at (encoded utf8 v) e d'

@@ -88,7 +88,7 @@ module _ (s : List ℕ) (i : ℕ) where
   unfolding step_at
   step_end e = ltb-false _ _ (end_by (ltb i (length s)) (whole_at s i) (value_at s i (matched s i)) (next_at s i) e)
 
-  pub end_step : length s ≤ i → step_at s i ≡ End
+  end_step : length s ≤ i → step_at s i ≡ End
   unfolding step_at
   end_step h = simp (le-ltb _ _ h)
 
@@ -172,7 +172,7 @@ unfoldable pub left : List ℕ → ℕ → ℕ
 left s i = length s - i
 
 module _ (s : List ℕ) (i : ℕ) {x : Step} (e : x ≡ step_at s i) where
-  pub scalar_on : {v next : ℕ} → x ≡ Scalar v next → StepsTo s i next
+  scalar_on : {v next : ℕ} → x ≡ Scalar v next → StepsTo s i next
   scalar_on g = (step_reads s i (sym e ∙ g)).advance
 
   pub scalar_less : {v next : ℕ} → x ≡ Scalar v next → left s next < left s i

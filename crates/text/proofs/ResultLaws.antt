@@ -1,6 +1,6 @@
 -- The laws of results. Assumes nothing.
 use Prim.Native.Nat.{ℕ, zero, suc, ◌+◌, ◌-◌, ◌≤◌, ◌<◌}
-use mathlib.Core.Path.{◌≡◌, refl, sym, ap, ◌∙◌}
+use mathlib.Core.Path.{◌≡◌, refl, ap, ◌∙◌}
 use mathlib.Core.Bool.{Bool, true, false}
 use Rattle.std.specs.Prelude.{Option, Some, None}
 use native.Mathlib.Numerals.{add-one}
@@ -8,10 +8,6 @@ use native.Mathlib.Omega.{arith}
 use Rattle.text.specs.Result.{Result, ok, error, or_error, check, check_each, check_count, fold_count, fold_range, ◌>>◌, ◌>>=◌}
 use Rattle.text.specs.declared.error.Failure.{Failure}
 use Rattle.text.proofs.TestLaws.{equal_or}
-
--- what a callee's enum reply is: f reads the reply as a result, and the reply is y
-pub reply_is : {X A : Type 0} (f : X → Result A) {x y : X} {m : Result A} → f x ≡ m → x ≡ y → m ≡ f y
-reply_is f e g = sym e ∙ ap f g
 
 pub same_value : {A : Type 0} {x y : A} → ok x ≡ ok y → x ≡ y
 same_value {A} {x} {y} e = cc
@@ -41,7 +37,7 @@ or_error_passed f None e =
     let z : ◌≡◌ {A = ℕ} 0 1 = cc in
     absurd (omega arith)
 
-pub check_count_passed : (q : ℕ) (holds : ℕ → Bool) (i n : ℕ) {u : Unit {0}} → check_count q holds i n ≡ ok u → (k : ℕ) → i ≤ k → k < i + n → holds k ≡ true
+check_count_passed : (q : ℕ) (holds : ℕ → Bool) (i n : ℕ) {u : Unit {0}} → check_count q holds i n ≡ ok u → (k : ℕ) → i ≤ k → k < i + n → holds k ≡ true
 unfolding check_count
 check_count_passed q holds i zero e k l h = absurd (omega arith)
 check_count_passed q holds i (suc n) {u} e k l h =
@@ -98,14 +94,6 @@ module _ {S : Type 0} (f : ℕ → S → Result S) (i e : ℕ) (s : S) where
       let k : e - i ≡ suc (e - suc i) = omega arith in
       rw (k, y)
 
-  -- a fold that is ok: its first step was
-  pub fold_range_passed : {u : S} → i < e → fold_range f i e s ≡ ok u → (s' : S) × ((f i s ≡ ok s') × (fold_range f (i + 1) e s' ≡ ok u))
-  unfolding fold_range fold_count
-  fold_range_passed {u} h y =
-      let k : e - i ≡ suc (e - suc i) = omega arith in
-      let y' : (f i s >>= fold_count f (suc i) (e - suc i)) ≡ ok u = rw k at y in
-      rw add-one (bind_passed (f i s) (fold_count f (suc i) (e - suc i)) y')
-
 -- each step of a fold that passed
 fold_count_step : {S : Type 0} (f : ℕ → S → Result S) (i k : ℕ) (s : S) {u : S} → fold_count f i k s ≡ ok u → (j : ℕ) → i ≤ j → j < i + k → (a : S) × ((b : S) × (f j a ≡ ok b))
 unfolding fold_count
@@ -154,13 +142,6 @@ module _ (n : ℕ) (holds : ℕ → Bool) (from e : ℕ) where
 
     pub checks_last : e ≤ i → check_each n holds from e ≡ ok tt
     checks_last h = c.rest ∙ check_each_done n holds i e h
-
--- checks before a value: what fails is one of them
-pub seq_failed : {A B : Type 0} (m : Result A) (b : B) {n : Failure} → (m >> ok b) ≡ error n → m ≡ error n
-seq_failed (ok a) b {n} e =
-    let z : ◌≡◌ {A = ℕ} 0 1 = cc in
-    absurd (omega arith)
-seq_failed (error f) b e = cc
 
 -- a failure passes by what is done with the value
 pub bind_failed : {A B C : Type 0} (m : Result A) (f : A → Result B) (g : A → B → Result C) {e : Failure} → (m >>= f) ≡ error e → (m >>= λ a. f a >>= g a) ≡ error e

@@ -8,10 +8,9 @@ use native.Mathlib.Omega.{arith}
 use borrow.Author.Tests.{lt-ltb, le-ltb, lt-leb, ltb-true, leb-true, ne_eqb, not-true, not-false}
 use lib.Dec.{ltb, leb}
 use lib.ListN.{length, get_or}
-use Rattle.text.specs.declared.utf8.Range.{Range}
 use Rattle.text.specs.declared.utf8.Step.TheVariants.{Scalar, IllFormed, End}
 use Rattle.text.specs.Unicode.{within}
-use Rattle.text.specs.Utf8.{Row, table, find, sequence_length, second_range, has_in, matched, value_at, whole_at, next_at, step_at}
+use Rattle.text.specs.Utf8.{Range, Row, table, find, sequence_length, second_range, has_in, matched, value_at, whole_at, next_at, step_at}
 use Rattle.text.proofs.TestLaws.{and_is, cond_both}
 
 -- no row is longer than four bytes, by a test of each row
@@ -48,9 +47,6 @@ module _ (s : List ℕ) (i : ℕ) where
 pub has_at : (s : List ℕ) (i lo hi : ℕ) → has_in s i lo hi ≡ true → i < length s
 unfolding has_in
 has_at s i lo hi e = ltb-true i (length s) (and_is (ltb i (length s)) (within lo hi (get_or s i 0)) e).0
-
-pub has_here : (s : List ℕ) (i lo hi : ℕ) (r : Bool) → r ≡ has_in s i lo hi → not r ≡ false → i < length s
-has_here s i lo hi r e t = has_at s i lo hi (sym e ∙ not-false r t)
 
 pub past : (s : List ℕ) (at : ℕ) → length s ≤ at → End ≡ step_at s at
 unfolding step_at

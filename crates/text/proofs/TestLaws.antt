@@ -83,7 +83,7 @@ every_from f (suc n) i t (suc k) h =
     subst (λ (m : ℕ). T (f m)) (suc-add i k ∙ sym (add-suc i k))
     (every_from f n (suc i) (and_right (f i) (every f (suc i) n) t) k (le_of_suc-le-suc h))
 
-pub every_below : (f : ℕ → Bool) (n : ℕ) → T (every f 0 n) → (k : ℕ) → k < n → T (f k)
+every_below : (f : ℕ → Bool) (n : ℕ) → T (every f 0 n) → (k : ℕ) → k < n → T (f k)
 every_below f n t k h = subst (λ (m : ℕ). T (f m)) (zero-add k) (every_from f n 0 t k h)
 
 -- two functions to numbers agree below n

@@ -293,7 +293,7 @@ repaired_from s =
     parts_rule s (λ i ps. Scalars (repaired ps)) (λ i h. tt) (λ i v n t go. ((step_took s i v n (step_reads s i t)).scalar, go))
     (λ i n t go. (record { top = omega arith; gap = gap_above 0xFFFD (omega arith) }, go))
 
-pub repaired_scalars : (s : List ℕ) → Scalars (repaired (parts_from s 0))
+repaired_scalars : (s : List ℕ) → Scalars (repaired (parts_from s 0))
 repaired_scalars s = repaired_from s 0
 
 -- a repaired text is well-formed

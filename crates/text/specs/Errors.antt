@@ -1,6 +1,6 @@
 -- The number and place of documents 01 and 02 for each kind of failure.
 -- Assumes nothing.
-use Rattle.std.specs.Prelude.{ℕ}
+use Rattle.std.specs.Prelude.{ℕ, List, ◌++◌, codes, decimal}
 use Rattle.text.specs.declared.error.Failure.{Failure}
 use Rattle.text.specs.declared.error.MatError.{MatError}
 use Rattle.text.specs.declared.error.MatError.TheVariants.{BlobTooLong, BlobTooShort, OffsetOutOfBounds, NameHeapTooEarly, OffsetsDescending, TooFewNames, PropertyBlockTruncated, ObjectIdOutOfRange, ClassIdOutOfRange, PropertyBlockIdOutOfRange, NameIndexOutOfRange, UnknownFieldType, InvalidDirectory, CellNotFound, UnexpectedCellKind, NotStringObject, OpaqueMetadataSize, OpaqueMetadataMagic, OpaqueMetadataDimensionsTruncated, OpaqueMetadataProductOverflow, OpaqueMetadataSizeMismatch, PayloadSize, PayloadVersion, PayloadDimensionsTruncated, PayloadProductOverflow, PayloadLengthsTruncated, PayloadLengthSumOverflow, PayloadUnitsTruncated, UnpairedSurrogate, InvalidText, ShapeMismatch, LimitExceeded, NotCanonical, OutputTooShort, NameIllFormed, UnmappableCharacter}
@@ -47,3 +47,7 @@ failure_of (NotCanonical p) = at 33 p
 failure_of (OutputTooShort p) = at 34 p
 failure_of (NameIllFormed p) = at 35 p
 failure_of (UnmappableCharacter p) = at 36 p
+
+-- a failure as it is printed: "refused", its number and its place
+abbrev pub refusal_text : Failure → List ℕ
+refusal_text f = codes "refused " ++ (decimal f.number ++ (codes " " ++ decimal f.place))

@@ -5,7 +5,6 @@ use Rattle.std.specs.Prelude.{Option, Some, None}
 use Rattle.std.specs.Option.{option_map}
 use Rattle.std.proofs.Math.Seq.{slice}
 use Rattle.text.specs.Unicode.{within, is_scalar, utf8, utf8s, utf16s}
-use Rattle.text.specs.declared.utf8.Range.{Range}
 use Rattle.text.specs.declared.utf8.Step.{Step}
 use Rattle.text.specs.declared.utf8.Step.TheVariants.{Scalar, IllFormed, End}
 
@@ -43,6 +42,11 @@ find (r ∷ rs) b = cond (within r.first_low r.first_high b) r (find rs b)
 -- "The leading one bits of the first byte give a sequence's length": that of the sequences that start with b, 0 where none does
 unfoldable pub sequence_length : ℕ → ℕ
 sequence_length b = (find table b).bytes
+
+-- a range of bytes, both ends in it
+pub record Range : Type 0 where
+  pub low : ℕ
+  pub high : ℕ
 
 -- "The first byte alone decides the range of the second"
 unfoldable pub second_range : ℕ → Range

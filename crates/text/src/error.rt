@@ -2,6 +2,8 @@
 ghost use Rattle.std.specs.Prelude.{◌≡◌};
 ghost use Rattle.text.specs.Errors.{failure_of};
 
+use std::fmt;
+
 // The first check of a call that does not hold, with its place. Question N of documents 01 and 02 is the Nth kind.
 // The place is a number in each, as C reads it: a kind that has none says 0, and NotStringObject 0 or 1 by its reason.
 #[derive(Clone, Copy, Debug, PartialEq, Eq)]
@@ -52,6 +54,18 @@ pub struct Failure {
     pub place: u64,
 }
 
+// A refusal as the programs print it.
+impl fmt::Display for Failure {
+    ghost use Rattle.std.specs.Prelude.{Some};
+    ghost use Rattle.text.specs.Errors.{refusal_text};
+
+    ghost output = { λ f. Some (refusal_text f) };
+
+    fn fmt<W: fmt::Write>(&self, f: &mut fmt::Formatter<W>) -> fmt::Result {
+        write!(f, "refused {} {}", self.number, self.place)
+    }
+}
+
 // One arm a kind: a kind carries its place, so that no cast tells its number.
 impl From<MatError> for Failure {
     ghost from_gives = { λ e f. f ≡ failure_of e };
@@ -95,6 +109,17 @@ impl From<MatError> for Failure {
             MatError::NameIllFormed(place) => Failure { number: 35, place },
             MatError::UnmappableCharacter(place) => Failure { number: 36, place },
         }
+    }
+}
+
+impl fmt::Display for MatError {
+    ghost use Rattle.std.specs.Prelude.{Some};
+    ghost use Rattle.text.specs.Errors.{refusal_text};
+
+    ghost output = { λ e. Some (refusal_text (failure_of e)) };
+
+    fn fmt<W: fmt::Write>(&self, f: &mut fmt::Formatter<W>) -> fmt::Result {
+        self.failure().fmt(f)
     }
 }
 

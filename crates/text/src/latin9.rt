@@ -24,7 +24,7 @@ fn point_in(points: &[u16], byte: u8) -> u32
     requires { IsTable points.now }
     ensures { (result ≡ code_point byte) × (result < 65536) }
 {
-    points[byte as usize] as u32
+    u32::from(points[usize::from(byte)])
 }
 
 // Whether the byte with this number has another code point.
@@ -32,10 +32,7 @@ fn point_in(points: &[u16], byte: u8) -> u32
 fn gave_way(value: u32) -> bool
     ensures { result ≡ not (eqb (code_point value) value) }
 {
-    match value {
-        0xA4 | 0xA6 | 0xA8 | 0xB4 | 0xB8 | 0xBC | 0xBD | 0xBE => true,
-        _ => false,
-    }
+    matches!(value, 0xA4 | 0xA6 | 0xA8 | 0xB4 | 0xB8 | 0xBC | 0xBD | 0xBE)
 }
 
 // A code point below 0x100 is that of the byte with its number or, where this byte has another one, of no byte.
@@ -62,6 +59,7 @@ fn byte_of(value: u32) -> Option<u8>
 }
 
 // The byte of the character of so many bytes at a position, which is not ASCII. None of four bytes has one.
+// A text and a position, as in utf8.rt.
 fn byte_at(text: &[u8], at: usize, size: usize) -> Option<u8>
     requires { CharacterAt text.now at size }
     ensures { result ≡ byte_of (value_at text.now at size) }

@@ -22,7 +22,7 @@ pub fn unit_step(first: u16, second: Option<u16>) -> Option<Scalar>
 {
     if first < 0xD800 || 0xDFFF < first {
         return Some(Scalar {
-            value: first as u32,
+            value: u32::from(first),
             units: 1,
         });
     }
@@ -31,7 +31,7 @@ pub fn unit_step(first: u16, second: Option<u16>) -> Option<Scalar>
         return None;
     }
     Some(Scalar {
-        value: 0x10000 + (first as u32 - 0xD800) * 1024 + (low as u32 - 0xDC00),
+        value: 0x10000 + (u32::from(first) - 0xD800) * 1024 + (u32::from(low) - 0xDC00),
         units: 2,
     })
 }
@@ -44,7 +44,7 @@ fn step_at(units: &[u16], i: usize) -> Option<Scalar>
     let first = units[i];
     if first < 0xD800 {
         return Some(Scalar {
-            value: first as u32,
+            value: u32::from(first),
             units: 1,
         });
     }

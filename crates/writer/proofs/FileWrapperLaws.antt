@@ -13,7 +13,7 @@ use lib.ListN.{length, get_or, take, drop, replicate, length-append, length-take
 use lib.Seq.{length-take-le, take-suc, drop-drop}
 use Rattle.text.specs.Buffer.{put, Puts}
 use Rattle.text.specs.Result.{ok, error}
-use Rattle.text.specs.declared.error.MatError.TheVariants.{LimitExceeded, OutputTooShort}
+use Rattle.text.specs.declared.error.MatError.TheVariants.{OutputTooShort}
 use Rattle.std.specs.Prelude.{Ok, Err}
 use Rattle.text.proofs.BufferLaws.{put_none, put_front, put_more, put_over, length_put}
 use Rattle.writer.specs.FileWrapper.{Region, SavedBlocks, Objects, Dependents, u32_bytes, u32s, name_heap, class_entries, entry, zero_entry, entries_from, region, regions, offsets_from, file_wrapper, build_metadata}
@@ -146,7 +146,7 @@ mid_put d a k w e h =
     (sym (append_assoc (take a d) w (drop (a + length w) d)) ∙ sym (put_over d a (take a d) w (omega arith) refl ∙ rw n))
 
 -- w and then x, where x goes after it
-pub put_then : (d w x : List ℕ) (i j : ℕ) {d' d'' : List ℕ} → d' ≡ put d i w → d'' ≡ put d' j x → j ≡ i + length w → j + length x ≤ length d → d'' ≡ put d i (w ++ x)
+put_then : (d w x : List ℕ) (i j : ℕ) {d' d'' : List ℕ} → d' ≡ put d i w → d'' ≡ put d' j x → j ≡ i + length w → j + length x ≤ length d → d'' ≡ put d i (w ++ x)
 put_then d w x i j p q e room = q ∙ ap (λ (b : List ℕ). put b j x) p ∙ put_more d i w x j e room
 
 -- ---- the loop that writes words ws to d₀ from index at on: d as it is, with i words written
@@ -268,9 +268,6 @@ pub accepts_most : (room : ℕ) → 16777200 ≤ room → build_metadata 349522 
 accepts_most room h = builds 349522 room (omega arith) (omega arith)
 
 -- what the call returns and leaves
-pub many_refused : {n : ℕ} {d : List ℕ} → 349522 < n → BuildsMetadata n d (Err (LimitExceeded n)) d
-many_refused {n} {d} h = record { reply = rw (build_many n (length d) h); buffer = rw (build_many n (length d) h) }
-
 module _ {n need : ℕ} (h : n ≤ 349522) (s : need ≡ length (file_wrapper n)) where
   size : need ≡ 144 + 48 * n
   size = s ∙ length_file_wrapper n

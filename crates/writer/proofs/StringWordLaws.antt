@@ -14,8 +14,8 @@ use Rattle.text.proofs.Utf16Laws.{units_below}
 use Rattle.writer.specs.Array.{string_units, unit_counts, all_units, string_words}
 use Rattle.writer.specs.declared.packing.Packer.{Packer}
 use Rattle.writer.specs.Stages.Packing.{State, state_of, fresh, pushes, padding, Pushed, Packable, Finished}
-use Rattle.writer.specs.Spans.{offset_at, length_at, string_at, strings_from, strings_in}
-use Rattle.writer.specs.Stages.Payload.{StringsFit, HasString}
+use Rattle.writer.specs.Spans.{string_at, strings_from, strings_in}
+use Rattle.writer.specs.Stages.Payload.{StringsFit}
 use Rattle.writer.specs.Words.{packed}
 use Rattle.writer.proofs.packing.Laws.{pushed_count, pushes_count, pushes_length, pushes_append, packs_all}
 use Rattle.writer.proofs.WordLaws.{length_packed}
@@ -37,13 +37,6 @@ unfolding flat_map
 all_units_append [] rs = refl
 all_units_append (s ∷ ss) rs =
     ap (λ (us : List ℕ). string_units s ++ us) (all_units_append ss rs) ∙ sym (append_assoc (string_units s) (all_units ss) (all_units rs))
-
--- ---- the part of the text that is string i
-
-pub part_is : (text spans : List ℕ) (i : ℕ) {a b : ℕ} → a ≡ offset_at spans i → b ≡ length_at spans i → take (a + b - a) (drop a text) ≡ string_at text spans i
-part_is text spans i {a} {b} start size =
-    let n : a + b - a ≡ b = omega arith in
-    rw (n, start, size)
 
 -- ---- the strings before string i
 
@@ -145,9 +138,6 @@ module _ (text spans words : List ℕ) (r : StringsFit text spans (length words)
 
     same_length : length p.words.now ≡ length words - n
     same_length = ap (λ (s : State). length s.words) m.pushed ∙ pushes_length (fresh (drop n words)) (units text spans i) ∙ length_others
-
-    pub string_there : i < n → HasString text spans i
-    string_there h = record { there = omega arith; inside = r.inside i h }
 
     pub string_fits : i < n → Packable (string_at text spans i) p
     string_fits h = record {

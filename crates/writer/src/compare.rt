@@ -1,10 +1,10 @@
 // Whether bytes are the metadata blob for string objects: compared where they lie, with nothing written.
 ghost use Rattle.std.specs.Prelude.{◌≡◌, ◌+◌, ◌*◌, ◌≤◌, length, replicate};
 ghost use Rattle.text.specs.Buffer.{same};
-ghost use Rattle.writer.specs.FileWrapper.{u32s, file_wrapper};
+ghost use Rattle.writer.specs.FileWrapper.{SavedBlocks, Objects, u32s, entries_from, file_wrapper};
 ghost use Rattle.writer.specs.Stages.Compare.{stands_at};
 
-use crate::file_wrapper::{head_words, object_record, saved_block};
+use crate::file_wrapper::{ObjectCount, object_record, saved_block};
 
 // Whether blob has words from byte at on.
 fn has_words(blob: &[u8], at: usize, words: &[u32]) -> bool
@@ -28,15 +28,46 @@ fn is_zeros(bytes: &[u8]) -> bool
     bytes.iter().fold(0, |high: u8, byte| high.max(*byte)) == 0
 }
 
-// Whether bytes as many as those of the blob for n objects are that blob. The parts are those that `put_file_wrapper` writes: one walk for
-// both is no plainer, for it takes a trait, a struct for each side, one of them with a `&mut`, and a stop that only comparing needs.
-pub(crate) fn has_file_wrapper(n: usize, blob: &[u8]) -> bool
-    requires { (n ≤ 349522) × (length blob.now ≡ 144 + 48 * n) }
-    ensures { result ≡ same blob.now (file_wrapper n) }
-{
-    has_words(blob, 0, &head_words(n as u32))
-        && (0..n).all(|i| has_words(blob, 96 + 16 * i, &saved_block(i as u32)))
-        && has_words(blob, 96 + 16 * n, &[0; 6])
-        && (0..n).all(|i| has_words(blob, 120 + 16 * n + 24 * i, &object_record(i as u32)))
-        && is_zeros(&blob[120 + 40 * n..])
+impl ObjectCount {
+    // Whether the saved blocks of the objects stand in a blob.
+    fn has_saved_blocks(self, blob: &[u8]) -> bool
+        requires { length blob.now ≡ 144 + 48 * self.n }
+        ensures { result ≡ stands_at blob.now 96 (entries_from SavedBlocks 0 self.n) }
+    {
+        (0..self.n as usize).all(|i| has_words(blob, 96 + 16 * i, &saved_block(i as u32)))
+    }
+
+    // Whether their records do.
+    fn has_records(self, blob: &[u8]) -> bool
+        requires { length blob.now ≡ 144 + 48 * self.n }
+        ensures { let n = self.n in result ≡ stands_at blob.now (120 + 16 * n) (entries_from Objects 0 n) }
+    {
+        let n = self.n as usize;
+        (0..n).all(|i| has_words(blob, 120 + 16 * n + 24 * i, &object_record(i as u32)))
+    }
+
+    // Whether bytes are the blob. The parts are those that `put_file_wrapper` writes: one walk for both is no plainer, for it takes a
+    // trait, a struct for each side, one of them with a `&mut`, and a stop that only comparing needs.
+    #[tactic(auto, using(crate::proofs::compare::Laws::standing))]
+    pub(crate) fn has_file_wrapper(self, blob: &[u8]) -> bool
+        ensures { result ≡ same blob.now (file_wrapper self.n) }
+    {
+        if blob.len() != self.blob_size() {
+            return false;
+        }
+        let n = self.n as usize;
+        if !has_words(blob, 0, &self.head_words()) {
+            return false;
+        }
+        if !self.has_saved_blocks(blob) {
+            return false;
+        }
+        if !has_words(blob, 96 + 16 * n, &[0; 6]) {
+            return false;
+        }
+        if !self.has_records(blob) {
+            return false;
+        }
+        is_zeros(&blob[120 + 40 * n..])
+    }
 }

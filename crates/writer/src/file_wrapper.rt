@@ -2,46 +2,13 @@
 ghost use Rattle.std.specs.Prelude.{◌≡◌, ◌+◌, ◌*◌, ◌≤◌, ◌<◌, length};
 ghost use Rattle.text.specs.Buffer.{put};
 ghost use Rattle.writer.specs.FileWrapper.{SavedBlocks, Objects, u32s, entry, file_wrapper};
-ghost use Rattle.writer.specs.Stages.FileWrapper.{file_head};
+
+use crate::string_object::{BLOB_BASE, BLOB_STEP, MAX_OBJECTS};
+use text::convert::to_usize;
+use text::error::MatError;
 
 // The version word of a metadata blob.
 pub const FILEWRAPPER_VERSION: u32 = 4;
-
-// The words before the entries of n objects. Those of the name heap are its bytes, four at a time.
-pub(crate) fn head_words(n: u32) -> [u32; 24]
-    requires { n ≤ 349522 }
-    ensures { u32s result ≡ file_head n }
-{
-    [
-        FILEWRAPPER_VERSION,
-        2,
-        // The offsets.
-        56,
-        88,
-        96 + 16 * n,
-        120 + 40 * n,
-        128 + 40 * n,
-        136 + 48 * n,
-        136 + 48 * n,
-        144 + 48 * n,
-        // The name heap: any, string.
-        0x00796E61,
-        0x69727473,
-        0x0000676E,
-        0,
-        // The classes, and block 0.
-        0,
-        0,
-        0,
-        0,
-        0,
-        2,
-        0,
-        0,
-        0,
-        0,
-    ]
-}
 
 // The saved block of object i, from 0: a triple with name 1 and heap value i.
 pub(crate) fn saved_block(i: u32) -> [u32; 4]
@@ -69,20 +36,86 @@ fn put_words(blob: &mut [u8], at: usize, words: &[u32])
     }
 }
 
-// Writes a blob that fits.
-pub(crate) fn put_file_wrapper(n: usize, blob: &mut [u8])
-    requires { (n ≤ 349522) × (144 + 48 * n ≤ length blob.old) }
-    ensures { blob.new ≡ put blob.old 0 (file_wrapper n) }
-{
-    put_words(blob, 0, &head_words(n as u32));
-    for i in 0..n {
-        put_words(blob, 96 + 16 * i, &saved_block(i as u32));
+// A number of objects that passed check 32.
+#[derive(Clone, Copy)]
+pub(crate) struct ObjectCount {
+    pub(crate) n: u32,
+    ghost few: { n ≤ 349522 },
+}
+
+impl ObjectCount {
+    ghost use Rattle.writer.specs.Stages.FileWrapper.{file_head, CountsObjects};
+
+    // Check 32.
+    pub(crate) fn new(n: u64) -> Result<ObjectCount, MatError>
+        ensures { CountsObjects n result }
+    {
+        if MAX_OBJECTS < n {
+            return Err(MatError::LimitExceeded(n));
+        }
+        Ok(ObjectCount { n: n as u32 })
     }
-    // Record 0.
-    put_words(blob, 96 + 16 * n, &[0; 6]);
-    for i in 0..n {
-        put_words(blob, 120 + 16 * n + 24 * i, &object_record(i as u32));
+
+    // The bytes of the blob.
+    pub(crate) fn blob_size(self) -> usize
+        ensures size { result ≡ 144 + 48 * self.n }
+        ensures blob { result ≡ length (file_wrapper self.n) }
+    {
+        to_usize(BLOB_BASE + BLOB_STEP * u64::from(self.n))
     }
-    // The normal block 0, and the blocks of dependents, which have none.
-    blob[120 + 40 * n..144 + 48 * n].fill(0);
+
+    // The words before the entries. Those of the name heap are its bytes, four at a time.
+    #[tactic(auto, using(crate::proofs::FileWrapperLaws::head_is))]
+    pub(crate) fn head_words(self) -> [u32; 24]
+        ensures { u32s result ≡ file_head self.n }
+    {
+        [
+            FILEWRAPPER_VERSION,
+            2,
+            // The offsets.
+            56,
+            88,
+            96 + 16 * self.n,
+            120 + 40 * self.n,
+            128 + 40 * self.n,
+            136 + 48 * self.n,
+            136 + 48 * self.n,
+            144 + 48 * self.n,
+            // The name heap: any, string.
+            0x00796E61,
+            0x69727473,
+            0x0000676E,
+            0,
+            // The classes, and block 0.
+            0,
+            0,
+            0,
+            0,
+            0,
+            2,
+            0,
+            0,
+            0,
+            0,
+        ]
+    }
+
+    // Writes the blob where it fits.
+    pub(crate) fn put_file_wrapper(self, blob: &mut [u8])
+        requires { 144 + 48 * self.n ≤ length blob.old }
+        ensures { blob.new ≡ put blob.old 0 (file_wrapper self.n) }
+    {
+        let n = self.n as usize;
+        put_words(blob, 0, &self.head_words());
+        for i in 0..n {
+            put_words(blob, 96 + 16 * i, &saved_block(i as u32));
+        }
+        // Record 0.
+        put_words(blob, 96 + 16 * n, &[0; 6]);
+        for i in 0..n {
+            put_words(blob, 120 + 16 * n + 24 * i, &object_record(i as u32));
+        }
+        // The normal block 0, and the blocks of dependents, which have none.
+        blob[120 + 40 * n..144 + 48 * n].fill(0);
+    }
 }

@@ -118,7 +118,8 @@ impl Packer<'_> {
 }
 
 // A scalar value of a text, and the index after its bytes.
-// text's Step has the same beside two cases that a measured text has not.
+// text's Step has the same beside two cases that a measured text has not, and for which a caller would test at each sequence. An iterator
+// would test each sequence again, which measuring did.
 #[derive(Clone, Copy, Debug, PartialEq, Eq)]
 pub(crate) struct Sequence {
     value: u32,
@@ -127,6 +128,7 @@ pub(crate) struct Sequence {
 
 // The sequence of two bytes or more at index i of a well-formed text. Its first byte tells its length, and no later one is tested.
 // text's `value_at` has these sums, but asks that the sequence is whole, which no call from another crate may be asked.
+#[tactic(auto, using(crate::proofs::packing::Sequences::sequences))]
 fn sequence_at(text: &[u8], i: usize) -> Sequence
     requires { SequenceAt text.now i }
     ensures { step_at text.now i ≡ Scalar result.value result.next }

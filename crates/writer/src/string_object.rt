@@ -3,16 +3,14 @@ ghost use Rattle.std.specs.Prelude.{◌≡◌, ◌≤◌, length};
 ghost use Rattle.text.specs.Buffer.{put};
 ghost use Rattle.text.specs.Replies.{outcome};
 ghost use Rattle.writer.specs.Array.{payload};
-ghost use Rattle.writer.specs.FileWrapper.{file_wrapper, is_file_wrapper};
+ghost use Rattle.writer.specs.FileWrapper.{is_file_wrapper};
 ghost use Rattle.writer.specs.Metadata.{object_metadata};
 ghost use Rattle.writer.specs.Replies.{measured_payload, EncodesPayload, BuildsMetadata};
 ghost use Rattle.writer.specs.Stages.Payload.{array_in, PayloadFits};
 
 use crate::checks::{Strings, is_shape};
-use crate::compare::has_file_wrapper;
-use crate::file_wrapper::put_file_wrapper;
+use crate::file_wrapper::ObjectCount;
 use crate::packing::put_strings;
-use text::convert::to_usize;
 use text::error::MatError;
 
 // The first word of opaque metadata.
@@ -90,14 +88,6 @@ fn put_payload(dims: &[u64], text: &[u8], spans: &[u64], words: &mut [u64])
     put_strings(Strings { text, spans }, &mut words[start..]);
 }
 
-// The bytes of the metadata blob for a number of string objects.
-fn blob_size(object_count: u64) -> u64
-    requires { object_count ≤ 349522 }
-    ensures { result ≡ length (file_wrapper object_count) }
-{
-    BLOB_BASE + BLOB_STEP * object_count
-}
-
 // Writes the metadata blob for a number of string objects to the start of blob.
 pub fn build_string_filewrapper_metadata(
     object_count: u64,
@@ -105,23 +95,22 @@ pub fn build_string_filewrapper_metadata(
 ) -> Result<usize, MatError>
     ensures { BuildsMetadata object_count blob.old result blob.new }
 {
-    if MAX_OBJECTS < object_count {
-        return Err(MatError::LimitExceeded(object_count));
+    let count = ObjectCount::new(object_count)?;
+    let need = count.blob_size();
+    if blob.len() < need {
+        return Err(MatError::OutputTooShort(need as u64));
     }
-    let need = blob_size(object_count);
-    if (blob.len() as u64) < need {
-        return Err(MatError::OutputTooShort(need));
-    }
-    put_file_wrapper(to_usize(object_count), blob);
-    Ok(to_usize(need))
+    count.put_file_wrapper(blob);
+    Ok(need)
 }
 
 // Whether blob is the metadata blob for a number of string objects.
+#[tactic(auto, using(crate::proofs::compare::Laws::many_not, crate::proofs::compare::Laws::is_blob))]
 pub fn is_string_filewrapper_metadata(object_count: u64, blob: &[u8]) -> bool
     ensures { result ≡ is_file_wrapper object_count blob.now }
 {
-    if MAX_OBJECTS < object_count || blob.len() as u64 != blob_size(object_count) {
-        return false;
+    match ObjectCount::new(object_count) {
+        Ok(count) => count.has_file_wrapper(blob),
+        Err(_) => false,
     }
-    has_file_wrapper(to_usize(object_count), blob)
 }

@@ -7,20 +7,21 @@ use Prim.Native.Nat.{ℕ, zero, suc, ◌+◌, ◌*◌, ◌-◌, ◌/◌, ◌%◌
 use native.Mathlib.Nat.{pow-suc}
 use native.Mathlib.Numerals.{add-one}
 use native.Mathlib.Omega.{arith}
-use borrow.Author.Tests.{lt-ltb, le-ltb, le-leb}
+use borrow.Author.Tests.{lt-ltb, le-ltb, le-leb, ltb-true}
 use lib.Dec.{leb, ltb}
-use lib.ListN.{length, get_or, take, drop, set, length-append, length-set, take-append-drop}
-use lib.Seq.{take_all, take-suc}
-use Rattle.text.specs.Buffer.{put, Puts, Places}
+use lib.ListN.{length, get_or, take, drop, set, length-append, length-set, length-take, length-drop, take-append-drop}
+use lib.Seq.{take_all, take-suc, drop-length, append_snoc}
+use Rattle.std.proofs.lemmas.List.{drop-set}
+use borrow.Rule.Slice.PartMut.{mid_of, put_mid}
+use Rattle.text.specs.Buffer.{Puts, Places}
 use Rattle.text.specs.Result.{ok, need_place}
 use Rattle.text.specs.declared.error.MatError.{MatError}
-use Rattle.text.proofs.BufferLaws.{put_none, put_front, places_fits, places_front, put_before}
+use Rattle.text.proofs.BufferLaws.{put_none, put_front, places_fits, places_front, part_put}
 use Rattle.text.proofs.ByteLaws.{stores}
 use Rattle.text.proofs.TestLaws.{cond_both}
-use Rattle.writer.proofs.FileWrapperLaws.{puts_then, puts_length}
+use Rattle.writer.proofs.FileWrapperLaws.{puts_then, puts_length, mid_put}
 use Rattle.printing.specs.Lines.{is_plain, hex_digit, escape, escaped, digits, decimal, CountsDigits, numbered, line_text, WritesPart}
 use Rattle.std.specs.Result.{result_unwrap_or}
-use Rattle.reader.specs.Opening.{empty_wrapper}
 use Rattle.text.specs.Replies.{outcome}
 use Rattle.text.proofs.ResultLaws.{same_value}
 use Rattle.std.specs.Prelude.{Ok, Err, Result as Reply}
@@ -38,22 +39,22 @@ module _ (b : ℕ) {r : Bool} (is : r ≡ is_plain b) where
   unfolding escape
   escape_hex e = simp (sym is ∙ e)
 
-  pub size_plain : r ≡ true → 1 ≡ length (escape b)
+  size_plain : r ≡ true → 1 ≡ length (escape b)
   size_plain e = rw (escape_plain e)
 
-  pub size_hex : r ≡ false → 3 ≡ length (escape b)
+  size_hex : r ≡ false → 3 ≡ length (escape b)
   size_hex e = rw (escape_hex e)
 
-  module _ (d : List ℕ) (at : ℕ) (room : at + length (escape b) ≤ length d) where
-    pub plain_room : r ≡ true → at < length d
+  module _ (d : List ℕ) (room : length (escape b) ≤ length d) where
+    pub plain_room : r ≡ true → 0 < length d
     plain_room e = omega (arith, size_plain e)
 
-    pub plain_puts : r ≡ true → Puts d at (escape b) (at + 1) (set d at b)
-    plain_puts e = rw (escape_plain e) (record { end = refl; buffer = stores (b ∷ []) d at (omega (arith, plain_room e)) })
+    pub plain_puts : r ≡ true → Puts d 0 (escape b) 1 (set d 0 b)
+    plain_puts e = rw (escape_plain e) (record { end = refl; buffer = stores (b ∷ []) d 0 (omega (arith, plain_room e)) })
 
-    pub hex_puts : r ≡ false → {x y : ℕ} → x ≡ hex_digit (b / 16) → y ≡ hex_digit (b % 16) → {o : ℕ} {d' : List ℕ} → Places d at (0x5C ∷ x ∷ y ∷ []) o d' → Puts d at (escape b) o d'
+    pub hex_puts : r ≡ false → {x y : ℕ} → x ≡ hex_digit (b / 16) → y ≡ hex_digit (b % 16) → {o : ℕ} {d' : List ℕ} → Places d 0 (0x5C ∷ x ∷ y ∷ []) o d' → Puts d 0 (escape b) o d'
     hex_puts e {x} {y} p q w =
-        let f = places_fits d at (0x5C ∷ x ∷ y ∷ []) (omega (arith, size_hex e)) w in
+        let f = places_fits d 0 (0x5C ∷ x ∷ y ∷ []) (omega (arith, size_hex e)) w in
         rw (escape_hex e) (rw (p, q) at f)
 
 -- a space, the byte after 126, the quote and the backslash
@@ -122,16 +123,27 @@ module _ (s : List ℕ) {d₀ : List ℕ} where
   write_start h = record { bound = omega arith; room = h; same = refl; puts = rw escaped_none (record { end = refl; buffer = sym (put_none d₀ 0) }) }
 
   module _ {d : List ℕ} {o i : ℕ} (w : Writing s d₀ d o i) where
-    pub write_room : i < length s → o + length (escape (get_or s i 0)) ≤ length d
-    write_room h = omega (arith, escaped_within s i h, w.puts.end)
+    module _ (h : i < length s) where
+      pub write_in : o ≤ length d
+      write_in = omega (arith, escaped_within s i h, w.puts.end)
 
-    pub write_turn : i < length s → {o' : ℕ} {d' : List ℕ} → Puts d o (escape (get_or s i 0)) o' d' → Writing s d₀ d' o' (i + 1)
-    write_turn h p = record {
-      bound = omega arith;
-      room = w.room;
-      same = puts_length p (write_room h) ∙ w.same;
-      puts = rw (escaped_next s i h) (puts_then w.puts p (omega (arith, escaped_within s i h)));
-    }
+      pub write_room : length (escape (get_or s i 0)) ≤ length (mid_of o (length d - o) d)
+      write_room = omega (arith, escaped_within s i h, w.puts.end, length-take (length d - o) (drop o d), length-drop o d)
+
+      module _ {n : ℕ} {part' : List ℕ} (p : Puts (mid_of o (length d - o) d) 0 (escape (get_or s i 0)) n part') where
+        pub write_fits : o + n ≤ length d
+        write_fits = omega (arith, escaped_within s i h, w.puts.end, p.end)
+
+        pub write_turn : Writing s d₀ (put_mid o (length d - o) d part') (o + n) (i + 1)
+        write_turn =
+            let fit : o + length (escape (get_or s i 0)) ≤ length d = omega (arith, write_fits, p.end) in
+            let q : Puts d o (escape (get_or s i 0)) (o + n) (put_mid o (length d - o) d part') = record { end = omega (arith, p.end); buffer = part_put d _ o fit p } in
+            record {
+              bound = omega arith;
+              room = w.room;
+              same = puts_length q fit ∙ w.same;
+              puts = rw (escaped_next s i h) (puts_then w.puts q (omega (arith, escaped_within s i h)));
+            }
 
     pub write_last : length s ≤ i → Puts d₀ 0 (escaped s) o d
     write_last h = rw (take_all i s h) at w.puts
@@ -196,49 +208,51 @@ module _ (value : ℕ) where
     pub count_last : v < 10 → CountsDigits value n
     count_last h = let e = ap length (decimal_one v h) in record { is = omega arith; few = omega arith }
 
--- the digits of v, up to index i, are still to write: with them d is d₀ with those of value from index at on
-pub record Printing (value at : ℕ) (d₀ d : List ℕ) (v i : ℕ) : Type 0 where
+-- the n last digits of v
+unfoldable pub last_digits : ℕ → ℕ → List ℕ
+last_digits zero v = []
+last_digits (suc n) v = last_digits n (v / 10) ++ (48 + v % 10) ∷ []
+
+last_next : (n v : ℕ) → last_digits (n + 1) v ≡ last_digits n (v / 10) ++ (48 + v % 10) ∷ []
+unfolding last_digits
+last_next n v = rw add-one refl
+
+digit_last : (v : ℕ) → v < 10 → last_digits 1 v ≡ (48 + v) ∷ []
+unfolding last_digits
+digit_last v h = ap (λ (x : ℕ). (48 + x) ∷ []) (omega arith)
+
+digits_last : (k v : ℕ) → v < 10 ^ suc k → last_digits (length (digits k v)) v ≡ digits k v
+unfolding digits
+digits_last zero v h = digit_last v (omega arith)
+digits_last (suc k) v h =
+    let shorter = digits_last k (v / 10) (omega (arith, pow-suc 10 (suc k))) in
+    cond_both (λ (r : List ℕ). last_digits (length r) v ≡ r) (ltb v 10) ((0x30 + v) ∷ []) (digits k (v / 10) ++ (0x30 + v % 10) ∷ [])
+    (λ e. digit_last v (ltb-true v 10 e))
+    (λ e. rw (length-append (digits k (v / 10)) ((48 + v % 10) ∷ []), last_next (length (digits k (v / 10))) v) (ap (λ (r : List ℕ). r ++ (48 + v % 10) ∷ []) shorter))
+
+-- the last digits of value stand from index i on, the i ones before them are those of v
+pub record Printing (value : ℕ) (d : List ℕ) (v i : ℕ) : Type 0 where
   pub small : v < 2 ^ 32
-  pub end : i ≡ at + length (decimal v)
   pub inside : i ≤ length d
-  pub same : length d ≡ length d₀
-  pub rest : put d at (decimal v) ≡ put d₀ at (decimal value)
+  pub rest : last_digits i v ++ drop i d ≡ decimal value
 
-module _ (value at : ℕ) {d₀ : List ℕ} where
-  pub print_start : {n : ℕ} → CountsDigits value n → value < 2 ^ 32 → at + length (decimal value) ≤ length d₀ → Printing value at d₀ d₀ value (at + n)
-  print_start s h room = record { small = h; end = omega arith; inside = omega arith; same = refl; rest = refl }
+module _ (value : ℕ) {d : List ℕ} where
+  pub print_start : value < 2 ^ 32 → length d ≡ length (decimal value) → Printing value d value (length d)
+  unfolding decimal
+  print_start h e = record { small = h; inside = omega arith; rest = rw (drop-length d, append-nil (last_digits (length d) value), e) (digits_last 19 value (omega arith)) }
 
-  module _ {d : List ℕ} {v i : ℕ} (p : Printing value at d₀ d v i) where
-    module _ (l : 10 ≤ v) where
-      pub print_some : 1 ≤ i
-      print_some = omega (arith, decimal_size v l (omega arith))
+  pub print_turn : {v i : ℕ} → Printing value d v (i + 1) → Printing value (set d i (48 + v % 10)) (v / 10) i
+  print_turn {v} {i} p = record {
+    small = omega (arith, p.small);
+    inside = simp length-set (omega (arith, p.inside));
+    rest =
+        rw (drop-set d i (48 + v % 10) (omega (arith, p.inside)))
+        (sym (append_snoc (last_digits i (v / 10)) (48 + v % 10) (drop (i + 1) d)) ∙ ap (λ (r : List ℕ). r ++ drop (i + 1) d) (sym (last_next i v)) ∙ p.rest);
+  }
 
-      pub print_at : i - 1 < length d
-      print_at = omega (arith, print_some)
-
-      pub print_turn : Printing value at d₀ (set d (i - 1) (48 + v % 10)) (v / 10) (i - 1)
-      print_turn =
-          let s = decimal_size v l (omega arith) in
-          record {
-            small = omega arith;
-            end = omega arith;
-            inside = simp length-set (omega arith);
-            same = simp length-set p.same;
-            rest =
-                put_before d at (decimal (v / 10)) (48 + v % 10) (i - 1) (omega arith) (omega arith)
-                ∙ ap (put d at) (sym (decimal_more v l (omega arith)))
-                ∙ p.rest;
-          }
-
-    module _ (h : v < 10) where
-      pub print_room : at < length d
-      print_room = omega (arith, ap length (decimal_one v h))
-
-      pub print_last : {n : ℕ} → CountsDigits value n → Puts d₀ at (decimal value) (at + n) (set d at (48 + v))
-      print_last s = record {
-        end = omega arith;
-        buffer = stores ((48 + v) ∷ []) d at (omega (arith, print_room)) ∙ ap (put d at) (sym (decimal_one v h)) ∙ p.rest;
-      }
+  pub print_last : {v : ℕ} → Printing value d v 0 → d ≡ decimal value
+  unfolding last_digits
+  print_last p = p.rest
 
 -- ---- a text at the start of an output
 
@@ -251,18 +265,20 @@ pub text_copied : (w out : List ℕ) → length w ≤ length out → {n : ℕ} {
 text_copied w out h p = text_written w out h (places_fits out 0 w (omega arith) p)
 
 module _ (start end out : List ℕ) (v : ℕ) {n : ℕ} (s : CountsDigits v n) where
-  size : length (numbered start v end) ≡ length start + n + length end
-  size = omega (arith, length-append (start ++ decimal v) end, length-append start (decimal v))
-
-  pub numbered_written : length start + n + length end ≤ length out → {a b r : ℕ} {d d' d'' : List ℕ}
-      → Places out 0 start a d → Puts d (length start) (decimal v) b d' → Places d' b end r d'' → WritesPart (numbered start v end) out (Ok r) d''
-  numbered_written h {d = d} {d' = d'} p q w =
-      let f : Puts out 0 start (length start) d = record { end = omega arith; buffer = places_front out start (omega arith) p } in
-      let g = puts_then f q (omega arith) in
-      let l = length-append start (decimal v) in
-      let k : length d' ≡ length out = puts_length g (omega arith) in
-      text_written (numbered start v end) out (omega (arith, size))
-      (puts_then g (places_fits d' _ end (omega (arith, g.end)) w) (omega arith))
+  pub numbered_written : length start + n + length end ≤ length out → {a r : ℕ} {d p d'' : List ℕ}
+      → Places out 0 start a d → p ≡ decimal v
+      → Places (put_mid (length start) (length start + n - length start) d p) (length start + n) end r d'' → WritesPart (numbered start v end) out (Ok r) d''
+  numbered_written h {d = d} {p = p} w e t =
+      let m : List ℕ = put_mid (length start) (length start + n - length start) d p in
+      let f : Puts out 0 start (length start) d = record { end = omega arith; buffer = places_front out start (omega arith) w } in
+      let k : length d ≡ length out = puts_length f (omega arith) in
+      let q : Puts d (length start) p (length start + n) m =
+      record { end = omega (arith, ap length e); buffer = mid_put d (length start) (length start + n - length start) p (omega (arith, ap length e)) (omega arith) } in
+      let g = puts_then f q (omega (arith, ap length e)) in
+      let l : length (start ++ p) ≡ length start + n = omega (arith, ap length e, length-append start p) in
+      let k' : length m ≡ length out = puts_length g (omega arith) in
+      rw (sym e)
+      (text_written (start ++ p ++ end) out (omega (arith, length-append (start ++ p) end)) (puts_then g (places_fits m (length start + n) end (omega arith) t) (omega arith)))
 
 -- a text that fits is written, and never refused
 pub text_puts : (t out : List ℕ) → length t ≤ length out → {r : Reply ℕ MatError} {out' : List ℕ} → WritesPart t out r out' → Puts out 0 t (result_unwrap_or r 0) out'
@@ -280,10 +296,6 @@ text_never t out h {e} w =
     let k : outcome {A = ℕ} (Err e) ≡ ok (length t) = simp f at w.reply in
     let z : ◌≡◌ {A = ℕ} 0 1 = cc in
     absurd (omega arith)
-
--- a part that is told by its variant
-pub part_is : {x p : LinePart} → x ≡ p → {out out' : List ℕ} {r : Reply ℕ MatError} → WritesPart (line_text p) out r out' → WritesPart (line_text x) out r out'
-part_is e t = rw e t
 
 -- ---- the most bytes that a text needs
 
@@ -311,8 +323,3 @@ part_most (part.Heap n) = omega (arith, numbered_most (0x20 ∷ 0x68 ∷ 0x65 �
 part_most (part.Inline n) = omega (arith, numbered_most (0x20 ∷ 0x69 ∷ 0x6E ∷ 0x6C ∷ 0x69 ∷ 0x6E ∷ 0x65 ∷ 0x20 ∷ []) n (0x0A ∷ []))
 part_most part.Name = omega arith
 part_most part.End = omega arith
-
--- "The listing program prints the line `names 0`": it has no object to go on with
-pub empty_line : line_text (part.Names empty_wrapper.names) ≡ 0x6E ∷ 0x61 ∷ 0x6D ∷ 0x65 ∷ 0x73 ∷ 0x20 ∷ 0x30 ∷ 0x0A ∷ []
-unfolding decimal digits
-empty_line = refl

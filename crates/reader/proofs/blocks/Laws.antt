@@ -52,7 +52,7 @@ module _ (size : ℕ) (b : List ℕ) where
         (simp (le-leb (i + 4) e h, le-leb (block_end size b i) e k)
         (same (e - suc i) (e - next_block size b i) (next_block size b i) e (n + 1) (omega (arith, next_past i)) (omega arith)))
 
-    pub blocks_cut : e < block_end size b i → blocks_from size b i e n ≡ error (record { number = 7; place = i })
+    blocks_cut : e < block_end size b i → blocks_from size b i e n ≡ error (record { number = 7; place = i })
     unfolding blocks_from blocks_count
     blocks_cut k = rw more (simp (le-leb (i + 4) e h, lt-leb (block_end size b i) e k))
 

@@ -50,7 +50,7 @@ module _ (p q text : List ℕ) {m n : LossySize} {bytes : ℕ} (a : IsSize p m) 
       same : length d ≡ length text
       same = ap length put_first.buffer ∙ length_put text 0 first joined_first
 
-      pub joined_stop : m.bytes < length d
+      joined_stop : m.bytes < length d
       joined_stop = omega (arith, same)
 
       module _ {d' : List ℕ} {o' : ℕ} (g : Places (set d m.bytes 0x2E) (m.bytes + 1) second o' d') where

@@ -65,10 +65,10 @@ both_counts x y {s} {t} e f =
 
 -- the buffers keep their lengths
 module _ {x : Strings} {at : Position} {t s : List ℕ} (f : FitsAt x (length t) (length s) at) {next : Position} {t' s' : List ℕ} (w : WritesAt x at t s next t' s') where
-  pub same_text : length t' ≡ length t
+  same_text : length t' ≡ length t
   same_text = ap length w.text_after ∙ length_put t at.byte (joined (values_of x)) f.text
 
-  pub same_spans : length s' ≡ length s
+  same_spans : length s' ≡ length s
   same_spans =
       let l = length_spans at.byte (values_of x) in
       ap length w.spans_after ∙ length_put s (2 * at.string) (spans_from at.byte (values_of x)) (omega (arith, f.spans))

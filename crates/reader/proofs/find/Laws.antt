@@ -1,34 +1,36 @@
 -- Finding a property by its name: the first triple for which a test holds, and the walk of the name heap that finds it.
 -- Assumes nothing.
 use mathlib.Core.Path.{◌≡◌, refl, sym, ap, ◌∙◌, fun_ext}
-use mathlib.Core.Bool.{Bool, true, false, ◌||◌}
+use mathlib.Core.Bool.{Bool, true, false, cond, ◌||◌}
 use mathlib.Core.List.{List, [], ◌∷◌}
 use Rattle.std.specs.Option.{unwrap_or}
+use Rattle.std.specs.Bool.{then_some}
 use Rattle.std.specs.Prelude.{Some, None}
 use Prim.Native.Nat.{ℕ, zero, suc, ◌+◌, ◌-◌, ◌*◌, ◌≤◌, ◌<◌}
 use native.Mathlib.Omega.{arith}
 use borrow.Author.Tests.{lt-ltb, le-ltb, le-leb, lt-leb, leb-true, ltb-true, ltb-false}
 use lib.Dec.{eqb, leb, ltb}
-use lib.ListN.{length, take}
+use lib.ListN.{length, take, get_or}
+use lib.Seq.{slice}
 use Rattle.text.specs.Buffer.{same}
 use Rattle.text.specs.Result.{ok}
 use Rattle.text.proofs.ResultLaws.{check_passed, seq_passed}
 use Rattle.text.proofs.TestLaws.{either, equal_or}
-use Rattle.reader.specs.Stages.Names.{heap_pieces, ComparesPiece, PieceBegins}
+use Rattle.reader.specs.Stages.Names.{heap_pieces, ComparesPiece}
 use Rattle.reader.specs.Objects.{triples_from, check_triple, check_triples, position, is_stored_as}
 use Rattle.reader.specs.Stages.Properties.{named_triples}
 use Rattle.reader.specs.Stages.Chunks.{is_in, value_in, ToNames, Looks, FillsTable}
-use Rattle.reader.specs.Stages.Find.{first_index, first_of, stored_in, ScansNames}
+use Rattle.reader.specs.Stages.Find.{first_index, first_of, stored_in}
 use Rattle.reader.specs.Queries.{own_bytes}
 use Rattle.reader.specs.Wire.{triple_at}
+use Rattle.reader.specs.declared.chunks.NameWalk.{NameWalk}
 use Rattle.reader.specs.declared.file_wrapper.Metadata.{Metadata}
-use Rattle.reader.specs.declared.find.Walk.{Walk}
 use Rattle.reader.specs.declared.names.Compared.{Compared}
 use Rattle.reader.specs.declared.triples.Triples.{Triples}
 use Rattle.reader.specs.declared.records.Triple.{Triple}
 use Rattle.reader.proofs.properties.Laws.{length_triples}
 use Rattle.reader.proofs.names.Comparison.{unnamed_equal, piece_equal}
-use Rattle.reader.proofs.names.Pieces.{stand_start, stand_inside, stand_empty, stand_next}
+use Rattle.reader.proofs.names.Pieces.{stand_inside, stand_empty, stand_next}
 use Rattle.reader.proofs.chunks.Laws.{in_range, in_chunk}
 
 -- ---- the first element for which a test holds
@@ -109,10 +111,10 @@ module _ {p : ℕ → Bool} {ts : Triples} {n k : ℕ} (s : Passing p ts n k) {t
 -- ---- looking at a name
 
 module _ {m : Metadata} {x start : ℕ} (n : ToNames m x (x + 1) start) where
-  declared : x ≤ length (heap_pieces m.blob.now m.w.offsets.o0)
+  declared : x ≤ length (heap_pieces m.blob.now (get_or m.w.offsets 0 0))
   declared = omega (arith, n.few, m.opens.names)
 
-  pub look_inside : (x ≡ 0 → ⊥) → start ≤ m.w.offsets.o0
+  pub look_inside : (x ≡ 0 → ⊥) → start ≤ get_or m.w.offsets 0 0
   look_inside z = stand_inside n.heap z declared
 
   module _ (wanted : List ℕ) where
@@ -120,11 +122,17 @@ module _ {m : Metadata} {x start : ℕ} (n : ToNames m x (x + 1) start) where
     told name = same name wanted
 
     pub look_empty : x ≡ 0 → Looks m false told x (record { value = eqb (length wanted) 0; any = eqb (length wanted) 0; next = start })
-    look_empty z = record { is = unnamed_equal m.blob.now m.w.offsets.o0 wanted z; none = λ e. e; heap = stand_empty n.heap z }
+    look_empty z = record { is = unnamed_equal m.blob.now (get_or m.w.offsets 0 0) wanted z; none = λ e. e; heap = stand_empty n.heap z }
 
-    pub look_piece : (x ≡ 0 → ⊥) → {c : Compared} → ComparesPiece m.blob.now start m.w.offsets.o0 wanted c
-        → Looks m false told x (record { value = c.equal; any = c.equal; next = c.end + 1 })
-    look_piece z k = record { is = piece_equal m.blob.now m.w.offsets.o0 wanted z declared n.heap k; none = λ e. e; heap = stand_next n.heap z declared k.piece }
+    pub look_piece : (x ≡ 0 → ⊥) → {rest : List ℕ} → rest ≡ slice start (get_or m.w.offsets 0 0) m.blob.now → {c : Compared} → ComparesPiece rest wanted c
+        → Looks m false told x (record { value = c.equal; any = c.equal; next = start + c.end + 1 })
+    look_piece z r k =
+        let l : get_or m.w.offsets 0 0 ≤ length m.blob.now = omega (arith, m.opens) in
+        record {
+          is = piece_equal m.blob.now (get_or m.w.offsets 0 0) wanted z declared l n.heap r k;
+          none = λ e. e;
+          heap = stand_next n.heap z declared l r k.piece;
+        }
 
 -- ---- a chunk of names
 
@@ -135,35 +143,31 @@ or_false false = refl
 in_none : {first e : ℕ} → e ≤ first → (y : ℕ) → is_in first e y ≡ false
 in_none {first} {e} h y = either (leb first y) (λ t. simp (t, le-ltb y e (omega (arith, leb-true first y t)))) (λ t. simp t)
 
-module _ (ts : Triples) (from : Walk) (wanted : List ℕ) {e : ℕ} {flags : List Bool} {any : Bool} {next : ℕ}
-    (k : FillsTable ts.metadata false (λ name. same name wanted) from.name e flags any next) where
+module _ (ts : Triples) (wanted : List ℕ) {first e : ℕ} {flags : List Bool} {any : Bool} {next : ℕ}
+    (k : FillsTable ts.metadata false (λ name. same name wanted) first e flags any next) where
   -- the flags are those of the names that are stored as wanted
-  flags_are : (x : ℕ) → value_in flags from.name e x false ≡ stored_in ts.metadata wanted from.name e x
+  flags_are : (x : ℕ) → value_in flags first e x false ≡ stored_in ts.metadata wanted first e x
   unfolding stored_in
-  flags_are x = rw (in_chunk k x false) (either (is_in from.name e x) (λ t. simp t) (λ t. simp t))
+  flags_are x = rw (in_chunk k x false) (either (is_in first e x) (λ t. simp t) (λ t. simp t))
 
-  flags_none : any ≡ false → (x : ℕ) → stored_in ts.metadata wanted from.name e x ≡ false
+  flags_none : any ≡ false → (x : ℕ) → stored_in ts.metadata wanted first e x ≡ false
   unfolding stored_in
-  flags_none z x = in_range from.name e x (λ h l t. simp (t, k.is.none z x h l)) (λ t. simp t)
+  flags_none z x = in_range first e x (λ h l t. simp (t, k.is.none z x h l)) (λ t. simp t)
 
-  advances : {best : ℕ} → best ≡ first_of (stored_in ts.metadata wanted from.name e) ts from.best → ScansNames ts wanted from (record { name = e; start = next; best = best })
-  advances z = record { more = k.more; few = k.few; heap = k.is.heap; is = z }
-
-  pub chunk_some : {c : ℕ} → c ≡ from.name → {best : ℕ} → best ≡ first_of (λ x. value_in flags c e x false) ts from.best
-      → ScansNames ts wanted from (record { name = e; start = next; best = best })
-  chunk_some is z = advances (rw is at z ∙ ap (λ (p : ℕ → Bool). first_of p ts from.best) (fun_ext flags_are))
-
-  pub chunk_none : any ≡ false → ScansNames ts wanted from (record { name = e; start = next; best = from.best })
-  chunk_none z = advances (of_none (stored_in ts.metadata wanted from.name e) ts (flags_none z) from.best)
+  -- the triples are searched only where a name of the chunk is wanted
+  advances : (n : ℕ) → cond any (first_of (λ x. value_in flags first e x false) ts n) n ≡ first_of (stored_in ts.metadata wanted first e) ts n
+  advances n =
+      either any
+      (λ t. simp t (ap (λ (p : ℕ → Bool). first_of p ts n) (fun_ext flags_are)))
+      (λ t. simp t (of_none (stored_in ts.metadata wanted first e) ts (flags_none t) n))
 
 -- ---- the walk of the name heap
 
 -- best is the first triple with a wanted name of those that have been looked at
-pub record Walking (ts : Triples) (wanted : List ℕ) (k : Walk) : Type 0 where
-  pub few : k.name ≤ ts.metadata.w.names + 1
-  pub order : k.best ≤ ts.count
-  pub heap : PieceBegins ts.metadata.blob.now ts.metadata.w.offsets.o0 k.name k.start
-  pub is : k.best ≡ first_of (stored_in ts.metadata wanted 0 k.name) ts ts.count
+pub record Walking (ts : Triples) (wanted : List ℕ) (k : NameWalk) (best : ℕ) : Type 0 where
+  pub of : k.metadata ≡ ts.metadata
+  pub order : best ≤ ts.count
+  pub is : best ≡ first_of (stored_in ts.metadata wanted 0 k.name) ts ts.count
 
 module _ (m : Metadata) (wanted : List ℕ) where
   -- a name index that passed its check is one of the declared
@@ -184,35 +188,39 @@ module _ (m : Metadata) (wanted : List ℕ) where
       (λ t. let l = ltb-true x k t in simp (t, le-leb 0 x (omega arith), lt-ltb x e (omega arith), lt-leb k x l) (or_false (same (own_bytes m.blob.now m.w x) wanted)))
       (λ t. simp (t, le-leb 0 x (omega arith), le-leb k x (ltb-false x k t)))
 
-module _ (ts : Triples) (wanted : List ℕ) where
-  pub walk_start : Walking ts wanted (record { name = 0; start = 40; best = ts.count })
+module _ (ts : Triples) (wanted : List ℕ) {k : NameWalk} where
+  pub walk_start : k.metadata ≡ ts.metadata → k.name ≡ 0 → Walking ts wanted k ts.count
   unfolding stored_in
-  walk_start = record {
-    few = omega arith;
+  walk_start e z = record {
+    of = e;
     order = omega arith;
-    heap = stand_start;
-    is = of_none (stored_in ts.metadata wanted 0 0) ts (λ x. simp (in_none {first = 0} {e = 0} (omega arith) x)) ts.count;
+    is = of_none (stored_in ts.metadata wanted 0 k.name) ts (λ x. simp (in_none {first = 0} {e = k.name} (omega arith) x)) ts.count;
   }
 
-  module _ {k : Walk} (s : Walking ts wanted k) where
-    pub walk_turn : {r : Walk} → ScansNames ts wanted k r → Walking ts wanted r
-    walk_turn {r} a =
-        let o = of_or (stored_in ts.metadata wanted 0 k.name) ts (stored_in ts.metadata wanted k.name r.name) (stored_in ts.metadata wanted 0 r.name)
-        (stored_split ts.metadata wanted k.name r.name (omega (arith, a.more))) ts.count in
-        let z : r.best ≡ first_of (stored_in ts.metadata wanted 0 r.name) ts ts.count = a.is ∙ ap (first_of (stored_in ts.metadata wanted k.name r.name) ts) s.is ∙ sym o in
-        record { few = a.few; order = omega (arith, z, of_le (stored_in ts.metadata wanted 0 r.name) ts ts.count); heap = a.heap; is = z }
+  module _ {best : ℕ} (s : Walking ts wanted k best) where
+    pub walk_turn : {k' : NameWalk} → k'.metadata ≡ k.metadata → {first e : ℕ} → first ≡ k.name → e ≡ k'.name
+        → {flags : List Bool} {any : Bool} → FillsTable k.metadata false (λ name. same name wanted) k.name k'.name flags any k'.start
+        → {r : ℕ} → r ≡ cond any (first_of (λ x. value_in flags first e x false) ts best) best → Walking ts wanted k' r
+    walk_turn {k'} m a b {flags} {any} fills {r} was =
+        let t : FillsTable ts.metadata false (λ name. same name wanted) k.name k'.name flags any k'.start = rw s.of at fills in
+        let now : r ≡ cond any (first_of (λ x. value_in flags k.name k'.name x false) ts best) best = rw (a, b) at was in
+        let o = of_or (stored_in ts.metadata wanted 0 k.name) ts (stored_in ts.metadata wanted k.name k'.name) (stored_in ts.metadata wanted 0 k'.name)
+        (stored_split ts.metadata wanted k.name k'.name (omega (arith, t.more))) ts.count in
+        let z : r ≡ first_of (stored_in ts.metadata wanted 0 k'.name) ts ts.count =
+        now ∙ advances ts wanted t best ∙ ap (first_of (stored_in ts.metadata wanted k.name k'.name) ts) s.is ∙ sym o in
+        record { of = m ∙ s.of; order = omega (arith, z, of_le (stored_in ts.metadata wanted 0 k'.name) ts ts.count); is = z }
 
-    module _ (h : ts.metadata.w.names < k.name) where
-      last : k.best ≡ first_index (is_stored_as ts.metadata.blob.now ts.metadata.w wanted) (named_triples ts)
-      unfolding first_of
-      last =
-          let z : k.name ≡ ts.metadata.w.names + 1 = omega (arith, s.few) in
-          rw z at s.is ∙ stored_all ts.metadata wanted (named_triples ts) ts.passed.checks
-
-      pub walk_none : k.best ≡ ts.count → None ≡ position (is_stored_as ts.metadata.blob.now ts.metadata.w wanted) (named_triples ts)
-      walk_none z =
-          sym (position_none (is_stored_as ts.metadata.blob.now ts.metadata.w wanted) (named_triples ts) (sym last ∙ z ∙ sym (length_triples ts.metadata.blob.now ts.at ts.count)))
-
-      pub walk_some : (k.best ≡ ts.count → ⊥) → Some k.best ≡ position (is_stored_as ts.metadata.blob.now ts.metadata.w wanted) (named_triples ts)
-      walk_some z =
-          sym (position_some (is_stored_as ts.metadata.blob.now ts.metadata.w wanted) (named_triples ts) (λ q. z (last ∙ q ∙ length_triples ts.metadata.blob.now ts.at ts.count)) ∙ ap Some (sym last))
+    -- past the last name, best is the position; the number of triples is told for none
+    pub walk_last : ts.metadata.w.names < k.name
+        → then_some (ltb best ts.count) best ≡ position (is_stored_as ts.metadata.blob.now ts.metadata.w wanted) (named_triples ts)
+    unfolding first_of
+    walk_last h =
+        let few : k.name ≤ ts.metadata.w.names + 1 = rw s.of at k.to_names.few in
+        let z : k.name ≡ ts.metadata.w.names + 1 = omega (arith, few) in
+        let p : Triple → Bool = is_stored_as ts.metadata.blob.now ts.metadata.w wanted in
+        let last : best ≡ first_index p (named_triples ts) = rw z at s.is ∙ stored_all ts.metadata wanted (named_triples ts) ts.passed.checks in
+        let n : length (named_triples ts) ≡ ts.count = length_triples ts.metadata.blob.now ts.at ts.count in
+        equal_or best ts.count
+        (λ q. simp (le-ltb best ts.count (omega (arith, q))) (sym (position_none p (named_triples ts) (sym last ∙ q ∙ sym n))))
+        (λ q. simp (lt-ltb best ts.count (omega (arith, s.order, q)))
+        (sym (position_some p (named_triples ts) (λ x. q (last ∙ x ∙ n)) ∙ ap Some (sym last))))

@@ -15,21 +15,21 @@ use Rattle.text.specs.Replies.{terminated_length}
 use Rattle.text.specs.Result.{ok, error}
 use Rattle.text.specs.Utf8.{scalars8, before_zero}
 use Rattle.text.proofs.utf8.Lossy.{none_replaced, part_replaced, sound_replaced}
-use Rattle.text.proofs.ResultLaws.{same_value, or_error_passed, check_passed, check_is, seq_passed, bind_passed}
+use Rattle.text.proofs.ResultLaws.{same_value, or_error_passed, check_passed, seq_passed, bind_passed}
 use Rattle.text.proofs.utf8.Terminated.{terminated_is, terminated_not}
 use Rattle.text.proofs.TestLaws.{either}
 use Rattle.text.proofs.Utf8Laws.{lossy_same, scalars8_empty}
 use Rattle.reader.specs.Labels.{IsPart, IsLabel, placeholder_part, name_part, check_well_formed, label_of, buffer_of}
 use Rattle.reader.specs.Names.{pieces, heap_of, name_bytes, length_with_zeros, name_start, sound_text}
-use Rattle.reader.specs.Stages.Names.{HasName, HasPieceAt}
+use Rattle.reader.specs.Stages.Names.{HasName}
 use Rattle.reader.specs.Opening.{opened}
 use Rattle.reader.specs.Queries.{check_name, own_bytes, shown, name_text}
 use Rattle.reader.specs.declared.file_wrapper.FileWrapper.{FileWrapper}
 use Rattle.reader.specs.declared.labels.Part.{Part}
 use Rattle.reader.specs.declared.labels.Source.{Source}
 use Rattle.reader.specs.declared.labels.Source.TheVariants as source
-use Rattle.reader.proofs.NameLaws.{opens, parsed, part_slice}
-use Rattle.reader.proofs.names.Pieces.{named_heap, named_piece, lengths_pieces, lengths_at, lengths_less, piece_at, starts_place, starts_name}
+use Rattle.reader.proofs.NameLaws.{opens, parsed, part_slice, has_name, declared}
+use Rattle.reader.proofs.names.Pieces.{named_heap, named_piece, lengths_pieces, lengths_at, lengths_less, piece_at, starts_place, rest_name}
 
 -- ---- outcomes of the definition
 
@@ -82,7 +82,7 @@ not_first b w (suc i) t = omega arith
 -- a part of the blob: that of a stored name
 record Stored (b : List ℕ) (w : FileWrapper) (i : ℕ) (p : Part) : Type 0 where
   pub least : 1 ≤ i
-  pub begins : p.start ≡ name_start b w.offsets.o0 i
+  pub begins : p.start ≡ name_start b (get_or w.offsets 0 0) i
   pub size : p.length ≡ length (own_bytes b w i)
 
 module _ (b placeholder : List ℕ) (w : FileWrapper) (i : ℕ) {p : Part} (is : p ≡ name_part b placeholder w i) where
@@ -92,13 +92,13 @@ module _ (b placeholder : List ℕ) (w : FileWrapper) (i : ℕ) {p : Part} (is :
       (λ t. let q : p ≡ placeholder_part (length placeholder) = is ∙ simp t in
       let z : ◌≡◌ {A = ℕ} 0 1 = cc in
       absurd (omega arith))
-      (λ t. let q : p ≡ record { source = source.Blob; start = name_start b w.offsets.o0 i; length = length (own_bytes b w i) } = is ∙ simp t in
+      (λ t. let q : p ≡ record { source = source.Blob; start = name_start b (get_or w.offsets 0 0) i; length = length (own_bytes b w i) } = is ∙ simp t in
       record { least = not_first b w i t; begins = ap (λ (x : Part). x.start) q; size = ap (λ (x : Part). x.length) q })
 
   in_placeholder : p.source ≡ source.Placeholder → p ≡ placeholder_part (length placeholder)
   in_placeholder s =
       either (eqb (length (own_bytes b w i)) 0) (λ t. is ∙ simp t)
-      (λ t. let q : p ≡ record { source = source.Blob; start = name_start b w.offsets.o0 i; length = length (own_bytes b w i) } = is ∙ simp t in
+      (λ t. let q : p ≡ record { source = source.Blob; start = name_start b (get_or w.offsets 0 0) i; length = length (own_bytes b w i) } = is ∙ simp t in
       let z : ◌≡◌ {A = ℕ} 0 1 = cc in
       absurd (omega arith))
 
@@ -129,7 +129,7 @@ accepted b placeholder i {p} e =
     }
 
 module _ {b placeholder : List ℕ} {i : ℕ} {p : Part} (a : Accepted b placeholder i p) where
-  named_in : HasName b a.wrapper.offsets.o0 i
+  named_in : HasName b (get_or a.wrapper.offsets 0 0) i
   named_in =
       let o = opens b a.wrapper a.opened_is in
       record { inside = omega (arith, o); most = omega (arith, o.names, a.named) }
@@ -178,10 +178,10 @@ module _ (b placeholder : List ℕ) (i : ℕ) {p : Part} (e : label_of b placeho
       let same : a.wrapper ≡ c.wrapper = same_value (sym a.opened_is ∙ c.opened_is) in
       let t = stored a s in
       let u : Stored b a.wrapper j p = subst (λ (w : FileWrapper). Stored b w j p) (sym same) (stored c s) in
-      let ps : List (List ℕ) = pieces (heap_of b a.wrapper.offsets.o0) in
+      let ps : List (List ℕ) = pieces (heap_of b (get_or a.wrapper.offsets 0 0)) in
       let few : i ≤ length ps = named_piece (named_in a) t.least in
-      let z : name_start b a.wrapper.offsets.o0 i ≡ name_start b a.wrapper.offsets.o0 j = sym t.begins ∙ u.begins in
-      let m : j ≤ length ps = subst (λ (w : FileWrapper). j ≤ length (pieces (heap_of b w.offsets.o0))) (sym same) (named_piece (named_in c) (stored c s).least) in
+      let z : name_start b (get_or a.wrapper.offsets 0 0) i ≡ name_start b (get_or a.wrapper.offsets 0 0) j = sym t.begins ∙ u.begins in
+      let m : j ≤ length ps = subst (λ (w : FileWrapper). j ≤ length (pieces (heap_of b (get_or w.offsets 0 0)))) (sym same) (named_piece (named_in c) (stored c s).least) in
       either (ltb i j)
       (λ y. absurd (omega (arith, lengths_less ps (i - 1) (j - 1) (omega (arith, ltb-true i j y, t.least)) (omega arith))))
       (λ y. either (ltb j i)
@@ -191,28 +191,34 @@ module _ (b placeholder : List ℕ) (i : ℕ) {p : Part} (e : label_of b placeho
 -- ---- the outcomes of `label_source`
 
 module _ (b placeholder : List ℕ) (i : ℕ) {w : FileWrapper} (o : ok w ≡ opened b) where
-  pub heap_inside : w.offsets.o0 ≤ length b
-  heap_inside = omega (arith, parsed o)
-
   pub source_zero : i ≡ 0 → {p : Part} → p ≡ placeholder_part (length placeholder) → ok p ≡ label_of b placeholder i
   source_zero z u = ap ok u ∙ sym (ap (label_of b placeholder) z ∙ label_zero b placeholder (sym o))
 
-  module _ {u : Unit {0}} (c : ok u ≡ check_name w i) (named : i ≡ 0 → ⊥) {start : ℕ} (s : HasPieceAt b w.offsets.o0 i start) where
-    abbrev rest : List ℕ
-    rest = take (w.offsets.o0 - start) (drop start b)
+  module _ {u : Unit {0}} (c : ok u ≡ check_name w i) (named : i ≡ 0 → ⊥) where
+    pub stored_name : (1 ≤ i) × (i ≤ w.names)
+    stored_name = (omega arith, declared w i c)
 
-    below : i ≤ w.names
-    below = leb-true i w.names (check_is 11 (leb i w.names) i (sym c))
+  module _ {u : Unit {0}} (c : ok u ≡ check_name w i) (named : i ≡ 0 → ⊥) (rest : List ℕ) (s : pieces rest ≡ drop (i - 1) (pieces (heap_of b (get_or w.offsets 0 0)))) where
+    has : HasName b (get_or w.offsets 0 0) i
+    has = has_name (parsed o) (declared w i c)
+
+    rest_starts : get_or w.offsets 0 0 ≡ name_start b (get_or w.offsets 0 0) i + length rest
+    rest_starts =
+        let heap : List ℕ = heap_of b (get_or w.offsets 0 0) in
+        omega (arith, starts_place heap rest i s, length-slice 40 (get_or w.offsets 0 0) b has.inside, named_heap has (omega arith))
+
+    pub rest_fits : length rest ≤ get_or w.offsets 0 0
+    rest_fits = omega (arith, rest_starts)
 
     own : before_zero rest ≡ own_bytes b w i
-    own = ap before_zero (part_slice start w.offsets.o0 b s.inside) ∙ starts_name named s
+    own = rest_name (heap_of b (get_or w.offsets 0 0)) rest i s ∙ sym (is_piece has (omega arith))
 
     pub source_ill_formed : None ≡ terminated_length rest → error (record { number = 35; place = i }) ≡ label_of b placeholder i
-    source_ill_formed e = sym (ill_formed_lem b placeholder i (sym o) below (ap scalars8 (sym own) ∙ terminated_not rest e refl))
+    source_ill_formed e = sym (ill_formed_lem b placeholder i (sym o) (declared w i c) (ap scalars8 (sym own) ∙ terminated_not rest e refl))
 
     module _ {n : ℕ} (e : Some n ≡ terminated_length rest) where
       told : label_of b placeholder i ≡ ok (name_part b placeholder w i)
-      told = well_formed b placeholder i (sym o) below (ap scalars8 (sym own) ∙ (terminated_is rest e refl).1.0)
+      told = well_formed b placeholder i (sym o) (declared w i c) (ap scalars8 (sym own) ∙ (terminated_is rest e refl).1.0)
 
       bytes : n ≡ length (own_bytes b w i)
       bytes = (terminated_is rest e refl).1.1 ∙ ap length own
@@ -220,9 +226,9 @@ module _ (b placeholder : List ℕ) (i : ℕ) {w : FileWrapper} (o : ok w ≡ op
       pub source_empty : n ≡ 0 → {p : Part} → p ≡ placeholder_part (length placeholder) → ok p ≡ label_of b placeholder i
       source_empty z u = ap ok u ∙ sym (told ∙ ap ok (simp (eq-eqb (length (own_bytes b w i)) 0 (sym bytes ∙ z))))
 
-      pub source_blob : (n ≡ 0 → ⊥) → ok (record { source = source.Blob; start = start; length = n }) ≡ label_of b placeholder i
+      pub source_blob : (n ≡ 0 → ⊥) → ok (record { source = source.Blob; start = get_or w.offsets 0 0 - length rest; length = n }) ≡ label_of b placeholder i
       source_blob m =
-          let k : start ≡ name_start b w.offsets.o0 i = starts_place heap_inside s in
+          let k : get_or w.offsets 0 0 - length rest ≡ name_start b (get_or w.offsets 0 0) i = omega (arith, rest_starts) in
           sym (told ∙ ap ok (simp (ne_eqb (length (own_bytes b w i)) 0 (λ z. m (bytes ∙ z))) (rw (sym bytes, k))))
 
 -- ---- the outcomes of `label`

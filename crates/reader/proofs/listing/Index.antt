@@ -19,7 +19,6 @@ use Rattle.reader.specs.Objects.{region_start, region_blocks}
 use Rattle.reader.specs.Stages.Objects.{number_of}
 use Rattle.reader.specs.declared.file_wrapper.Metadata.{Metadata}
 use Rattle.reader.specs.declared.listing.Cursor.{Cursor}
-use Rattle.reader.specs.declared.listing.Cursors.{Cursors}
 use Rattle.reader.specs.declared.plan.Plan.{Plan}
 use Rattle.reader.specs.declared.objects.BlockId.{BlockId}
 use Rattle.reader.specs.declared.objects.Region.{Region}
@@ -29,18 +28,24 @@ use Rattle.reader.proofs.objects.Laws.{region_has}
 
 -- ---- the cursors of either region
 
-module _ {m : Metadata} where
-  region_cursor : {cs : Cursors} → AreCursors m cs → (g : Region) → IsCursor m.blob.now (region_start m.w (number_of g)) (cursor_of cs g)
-  region_cursor a Saved = a.saveobj
-  region_cursor a Normal = a.normalobj
+module _ {m : Metadata} {cs : List Cursor} where
+  moved : AreCursors m cs → (g : Region) {c : Cursor} → IsCursor m.blob.now (region_start m.w (number_of g)) c
+      → (h : Region) → IsCursor m.blob.now (region_start m.w (number_of h)) (cursor_of (with_cursor cs g c) h)
+  moved a Saved {c} i Saved = rw (get_or-set_same cs 0 c _ (omega (arith, a.size))) i
+  moved a Normal {c} i Normal = rw (get_or-set_same cs 1 c _ (omega (arith, a.size))) i
+  moved a Saved {c} i Normal = rw (get_or-set_other cs 0 1 c _ (λ e. omega arith)) (a.are Normal)
+  moved a Normal {c} i Saved = rw (get_or-set_other cs 1 0 c _ (λ e. omega arith)) (a.are Saved)
 
-  pub region_with : {cs : Cursors} → AreCursors m cs → (g : Region) {c : Cursor} → IsCursor m.blob.now (region_start m.w (number_of g)) c → AreCursors m (with_cursor cs g c)
-  region_with a Saved i = record { saveobj = i; normalobj = a.normalobj }
-  region_with a Normal i = record { saveobj = a.saveobj; normalobj = i }
+  pub region_with : AreCursors m cs → (g : Region) {c : Cursor} → IsCursor m.blob.now (region_start m.w (number_of g)) c → AreCursors m (with_cursor cs g c)
+  region_with a g {c} i = record { size = length-set cs (number_of g) c ∙ a.size; are = moved a g i }
 
-  pub cursors_start : {cs : Cursors} → cs ≡ first_cursors m.w → AreCursors m cs
-  unfolding block_at
-  cursors_start e = rw e (record { saveobj = record { is = refl }; normalobj = record { is = refl } })
+started : (m : Metadata) (g : Region) → IsCursor m.blob.now (region_start m.w (number_of g)) (cursor_of (first_cursors m.w) g)
+unfolding block_at
+started m Saved = record { is = refl }
+started m Normal = record { is = refl }
+
+pub cursors_start : {m : Metadata} {cs : List Cursor} → cs ≡ first_cursors m.w → AreCursors m cs
+cursors_start {m} e = rw e (record { size = refl; are = started m })
 
 -- ---- from a cursor to a block
 
@@ -48,7 +53,7 @@ module _ {b : List ℕ} {start : ℕ} {c : Cursor} (is : IsCursor b start c) {k 
   pub cursor_has : HasBlock 12 b start k → HasBlock 12 b c.at (k - c.block)
   cursor_has has = block_from has c.block is.is (omega arith)
 
-  pub cursor_there : cursor_from b c k ≡ cursor_at b start k
+  cursor_there : cursor_from b c k ≡ cursor_at b start k
   cursor_there =
       let z : c.block + (k - c.block) ≡ k = omega arith in
       rw (is.is, block_sum 12 b start c.block (k - c.block), z)
@@ -90,7 +95,7 @@ module _ (p : Plan) (g : Region) where
         pub filling_has : HasBlock 12 blob c.at (j * p.stride - c.block)
         filling_has = cursor_has f.cursor f.behind (region_has p.metadata.opens g (below h))
 
-        pub filling_room : {first : ℕ} → first ≡ first_entry p g → first + j < 8192
+        filling_room : {first : ℕ} → first ≡ first_entry p g → first + j < 8192
         filling_room q =
             let l = (le-div_iff_mul-le {x = j} {y = region_blocks p.metadata.w (number_of g)} p.fits.least).1 (omega (arith, below h)) in
             omega (arith, blocks_room p g, l)
@@ -133,18 +138,18 @@ index_filled {p} {one = one} {two = two} f s = record { size = s.size; entries =
 
 -- ---- the walk to a block
 
-module _ {index : List ℕ} {p : Plan} {cs : Cursors} {k : BlockId} (to : ToBlock index p cs k) where
+module _ (p : Plan) {cs : List Cursor} {k : BlockId} (to : ToBlock p.metadata cs k) where
   pub block_near : EntryInside p k
   block_near =
       let n = region_blocks p.metadata.w (number_of k.region) in
       let l : k.id / p.stride ≤ n / p.stride = (le-div_iff_mul-le {x = k.id / p.stride} {y = n} p.fits.least).1 (omega (arith, div-mul-le_self k.id p.stride, to.below)) in
       omega (arith, l, blocks_room p k.region)
 
-  module _ {c : Cursor} (near : Nearest index p cs k c) where
+  module _ {index : List ℕ} (indexes : Indexes p index) {c : Cursor} (near : Nearest index p cs k c) where
     near_is : IsCursor p.metadata.blob.now (region_start p.metadata.w (number_of k.region)) c
     near_is =
         let l : k.id / p.stride * p.stride < region_blocks p.metadata.w (number_of k.region) = omega (arith, div-mul-le_self k.id p.stride, to.below) in
-        near.is p.metadata.blob.now (region_start p.metadata.w (number_of k.region)) (region_cursor to.cursors k.region) (to.indexes.entries k.region (k.id / p.stride) l)
+        near.is p.metadata.blob.now (region_start p.metadata.w (number_of k.region)) (to.cursors.are k.region) (indexes.entries k.region (k.id / p.stride) l)
 
     pub near_has : HasBlock 12 p.metadata.blob.now c.at (k.id - c.block)
     near_has = cursor_has near_is near.behind (region_has p.metadata.opens k.region to.below)

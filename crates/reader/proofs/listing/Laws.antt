@@ -24,7 +24,6 @@ use Rattle.reader.specs.Wire.{u32_at}
 use Rattle.reader.specs.declared.file_wrapper.FileWrapper.{FileWrapper}
 use Rattle.reader.specs.declared.file_wrapper.Metadata.{Metadata}
 use Rattle.reader.specs.declared.listing.Cursor.{Cursor}
-use Rattle.reader.specs.declared.listing.Cursors.{Cursors}
 use Rattle.reader.specs.declared.plan.Plan.{Plan}
 use Rattle.reader.specs.declared.listing.Step.{Step}
 use Rattle.reader.specs.declared.objects.BlockId.{BlockId}
@@ -136,12 +135,12 @@ module _ (m : Metadata) where
 
 -- ---- one object more
 
-module _ {index : List ℕ} {p : Plan} {cs : Cursors} {i : ℕ} (to : ToNext index p cs i) where
+module _ {m : Metadata} {cs : List Cursor} {i : ℕ} (to : ToNext m cs i) where
   abbrev b : List ℕ
-  b = p.metadata.blob.now
+  b = m.blob.now
 
   abbrev w : FileWrapper
-  w = p.metadata.w
+  w = m.w
 
   is_row : object_of b w (i + 1) ≡ ok (get_or (all_objects b) i no_row)
   is_row = object_at b w 1 (w.records - 1) to.listable i (i + 1) (omega arith) (omega (arith, to.below))
@@ -158,29 +157,29 @@ module _ {index : List ℕ} {p : Plan} {cs : Cursors} {i : ℕ} (to : ToNext ind
         let z : object_row b w r ≡ get_or (all_objects b) i no_row = cc in
         (p.1.0, z)
 
-    pub next_none : k.id ≡ 0 → {row : ObjectRow} → row ≡ row_from r k 0 → NextObject p.metadata i (record { row = row; cursors = cs })
+    pub next_none : k.id ≡ 0 → {row : ObjectRow} → row ≡ row_from r k 0 → NextObject m i (record { row = row; cursors = cs })
     next_none z e = record { cursors = to.cursors; row = row_none b w r passed.0 chosen z e ∙ passed.1 }
 
     module _ (some : k.id ≡ 0 → ⊥) where
       below_blocks : k.id < region_blocks w (number_of k.region)
       below_blocks = block_below b w r passed.0 chosen some
 
-      pub next_block_lem : ToBlock index p cs k
-      next_block_lem = record { indexes = to.indexes; cursors = to.cursors; below = below_blocks }
+      pub next_block_lem : ToBlock m cs k
+      next_block_lem = record { cursors = to.cursors; below = below_blocks }
 
       module _ {c : Cursor} (at : c ≡ cursor_at b (region_start w (number_of k.region)) k.id) where
         pub next_count : c.at + 4 ≤ length b
         next_count =
-            let h : block_end 12 b c.at ≤ length b = rw at ((region_has p.metadata.opens k.region below_blocks).inside k.id (omega arith)) in
+            let h : block_end 12 b c.at ≤ length b = rw at ((region_has m.opens k.region below_blocks).inside k.id (omega arith)) in
             omega (arith, h)
 
-        pub next_found : {m : ℕ} → m ≡ u32_at b c.at → {row : ObjectRow} → row ≡ row_from r k m → {cs' : Cursors} → cs' ≡ with_cursor cs k.region c
-            → NextObject p.metadata i (record { row = row; cursors = cs' })
-        next_found {m} mm {row} e d =
+        pub next_found : {n : ℕ} → n ≡ u32_at b c.at → {row : ObjectRow} → row ≡ row_from r k n → {cs' : List Cursor} → cs' ≡ with_cursor cs k.region c
+            → NextObject m i (record { row = row; cursors = cs' })
+        next_found {n} is {row} e d =
             let q : c.at ≡ block_at 12 b (region_start w (number_of k.region)) k.id = ap (λ (x : Cursor). x.at) at in
             record {
               cursors = rw d (region_with to.cursors k.region (record { is = rw at }));
-              row = row_found b w r passed.0 chosen some q mm e ∙ passed.1;
+              row = row_found b w r passed.0 chosen some q is e ∙ passed.1;
             }
 
 -- ---- the public call
@@ -201,14 +200,14 @@ listed (error f) room e =
     absurd (omega arith)
 
 -- the first i objects' rows are written, and the cursors are the blob's
-pub record Filling (m : Metadata) (rows : List ObjectRow) (i : ℕ) (cs : Cursors) (rows' : List ObjectRow) : Type 0 where
+pub record Filling (m : Metadata) (rows : List ObjectRow) (i : ℕ) (cs : List Cursor) (rows' : List ObjectRow) : Type 0 where
   pub cursors : AreCursors m cs
   pub are : Fronts (all_objects m.blob.now) rows i rows'
 
-pub fill_start : {m : Metadata} {rows : List ObjectRow} {cs : Cursors} → cs ≡ first_cursors m.w → Filling m rows 0 cs rows
+pub fill_start : {m : Metadata} {rows : List ObjectRow} {cs : List Cursor} → cs ≡ first_cursors m.w → Filling m rows 0 cs rows
 fill_start e = record { cursors = cursors_start e; are = front_start }
 
-pub fill_row : {m : Metadata} {rows : List ObjectRow} {i : ℕ} {cs : Cursors} {rows' : List ObjectRow} → Filling m rows i cs rows'
+pub fill_row : {m : Metadata} {rows : List ObjectRow} {i : ℕ} {cs : List Cursor} {rows' : List ObjectRow} → Filling m rows i cs rows'
     → {n : ℕ} → ok n ≡ map_result length (into_output (object_rows m.blob.now) (length rows)) → i < n → {s : Step} → NextObject m i s
     → Filling m rows (i + 1) s.cursors (set rows' i s.row)
 fill_row {m} {rows} f e h t =

@@ -1,32 +1,40 @@
 -- The pieces of the name heap, and the loops that count and find them.
 -- Assumes nothing.
 use mathlib.Core.Path.{◌≡◌, refl, sym, ap, ◌∙◌}
-use mathlib.Core.List.{List, [], ◌∷◌, ◌++◌, append-nil}
+use mathlib.Core.Bool.{cond}
+use mathlib.Core.List.{List, [], ◌∷◌, ◌++◌, append_assoc, append-nil}
 use Prim.Native.Nat.{ℕ, zero, suc, ◌+◌, ◌-◌, ◌≤◌, ◌<◌}
 use native.Mathlib.Numerals.{add-one}
 use native.Mathlib.Omega.{arith}
-use borrow.Author.Tests.{eq-eqb, ne_eqb, eqb-true, eqb-false, ltb-true, ltb-false, le-leb, lt-leb, leb-true}
-use lib.Dec.{eqb, leb, ltb}
-use lib.ListN.{length, get_or, take, drop, length-drop, take-append-drop}
-use lib.Seq.{slice, slice-cons, slice_empty, length-slice, append_snoc, take-take, drop-cons, get_or-drop, drop-drop}
+use borrow.Author.Tests.{eq-eqb, ne_eqb, ltb-true, ltb-false, le-leb, lt-leb, leb-true, leb-false}
+use lib.Dec.{eqb, leb, ltb, leb-suc-suc}
+use lib.ListN.{get_or-eq_default, drop_of_length-le, length, get_or, take, drop, length-append, length-take, length-drop, take-append-drop}
+use lib.Seq.{take-suc, take_all, slice, length-slice, drop-cons, get_or-drop, drop-drop, drop-length}
+use Rattle.std.proofs.lemmas.List.Sums.{count_by-le-length, sum_by-append}
 use Rattle.text.specs.Utf8.{before_zero}
-use Rattle.text.proofs.BufferLaws.{slice_more}
 use Rattle.text.proofs.utf8.Terminated.{before_none, before_zero_lem, before_more}
 use Rattle.text.proofs.TestLaws.{either}
-use Rattle.reader.specs.Names.{onto, pieces, heap_of, name_bytes, length_with_zeros, name_start}
-use Rattle.reader.specs.Stages.Names.{pieces_from, heap_pieces, zeros, Counted, Skips, HasPiece, HasPieceAt, FirstPiece, PieceBegins, HasName}
-use Rattle.reader.specs.declared.names.Skipped.{Skipped}
+use Rattle.reader.specs.Names.{onto, pieces, heap_of, name_bytes, length_with_zeros}
+use Rattle.reader.specs.Stages.Names.{pieces_from, heap_pieces, zeros, Skips, HasPiece, Running, FirstPiece, PieceBegins, HasName}
 
 length_onto : (x : ℕ) (ps : List (List ℕ)) → 1 ≤ length ps → length (onto x ps) ≡ length ps
 length_onto x [] h = absurd (omega arith)
 length_onto x (p ∷ ps) h = refl
 
+-- ---- counting zero bytes
+
+zeros_append : (xs ys : List ℕ) → zeros (xs ++ ys) ≡ zeros xs + zeros ys
+zeros_append xs ys = sum_by-append (λ x. cond (eqb x 0) 1 0) xs ys
+
+zeros_cons : (x : ℕ) (xs : List ℕ) → zeros (x ∷ xs) ≡ cond (eqb x 0) 1 0 + zeros xs
+zeros_cons x xs = omega (arith, zeros_append (x ∷ []) xs)
+
 length_pieces : (xs : List ℕ) → length (pieces xs) ≡ zeros xs + 1
-unfolding pieces zeros
+unfolding pieces
 length_pieces [] = refl
 length_pieces (x ∷ xs) =
     let l = length_pieces xs in
-    either (eqb x 0) (λ e. simp e (omega arith)) (λ e. simp e (rw (length_onto x (pieces xs) (omega arith)) (omega arith)))
+    rw (zeros_cons x xs) (either (eqb x 0) (λ e. simp e (omega arith)) (λ e. simp e (rw (length_onto x (pieces xs) (omega arith)) (omega arith))))
 
 pub pieces_some : (xs : List ℕ) → 1 ≤ length (pieces xs)
 pieces_some xs = omega (arith, length_pieces xs)
@@ -39,67 +47,39 @@ pub pieces_byte : (x : ℕ) (xs : List ℕ) → (x ≡ 0 → ⊥) → pieces (x 
 unfolding pieces
 pieces_byte x xs n = simp (ne_eqb x 0 n)
 
-one_byte : (b : List ℕ) (i e : ℕ) → i < e → e ≤ length b → slice i e b ≡ get_or b i 0 ∷ slice (i + 1) e b
-one_byte b i e h l = rw add-one (slice-cons i e b 0 h l)
+-- ---- passing whole blocks
 
--- ---- counting zero bytes
+module _ {s : List ℕ} {most : ℕ} where
+  module _ {n : ℕ} {rest : List ℕ} (k : Skips s most n rest) where
+    pub skip_fits : n + length rest ≤ length s
+    skip_fits = omega (arith, ap length k.is, length-append k.passed rest, count_by-le-length (λ x. eqb x 0) k.passed, k.counted)
 
-zeros_append : (xs ys : List ℕ) → zeros (xs ++ ys) ≡ zeros xs + zeros ys
-unfolding zeros
-zeros_append [] ys = omega arith
-zeros_append (x ∷ xs) ys = omega (arith, zeros_append xs ys)
+    pub skip_counts : {m : ℕ} {block : List ℕ} → m ≡ zeros block → block ≡ take 64 rest → n + m ≤ length s
+    skip_counts {m} {block} z t = omega (arith, z, count_by-le-length (λ x. eqb x 0) block, ap length t, length-take 64 rest, skip_fits)
 
-pub slice_split : (i j e : ℕ) (b : List ℕ) → i ≤ j → j ≤ e → slice i e b ≡ slice i j b ++ slice j e b
-slice_split zero j e b h k = sym (take-append-drop j (take e b)) ∙ ap (λ (x : List ℕ). x ++ slice j e b) (take-take j e b k)
-slice_split (suc i) zero e b h k = absurd (omega arith)
-slice_split (suc i) (suc j) zero b h k = absurd (omega arith)
-slice_split (suc i) (suc j) (suc e) [] h k = refl
-slice_split (suc i) (suc j) (suc e) (x ∷ b) h k = slice_split i j e b (omega arith) (omega arith)
-
-module _ {b : List ℕ} where
-  pub count_none : {i : ℕ} → Counted b i i 0
-  unfolding zeros
-  count_none {i} = record { order = omega arith; few = omega arith; is = sym (ap zeros (slice_empty i b)) }
-
-  pub count_more : {i j e n m : ℕ} → Counted b i j n → Counted b j e m → Counted b i e (n + m)
-  count_more {i} {j} {e} c d =
-      let z = ap zeros (slice_split i j e b c.order d.order) ∙ zeros_append (slice i j b) (slice j e b) in
-      record { order = omega (arith, c.order, d.order); few = omega (arith, c, d); is = omega (arith, z, c.is, d.is) }
-
-  module _ {i : ℕ} (h : i < length b) where
-    count_one : {n : ℕ} → n ≤ 1 → n ≡ zeros (get_or b i 0 ∷ []) → Counted b i (i + 1) n
-    count_one l z = record {
-      order = omega arith;
-      few = omega arith;
-      is = z ∙ sym (ap zeros (one_byte b i (i + 1) (omega arith) (omega arith) ∙ ap (λ (xs : List ℕ). get_or b i 0 ∷ xs) (slice_empty (i + 1) b)));
+    pub skip_turn : {m : ℕ} {block after : List ℕ} → m ≡ zeros block → block ≡ take 64 rest → after ≡ drop 64 rest → n + m ≤ most → Skips s most (n + m) after
+    skip_turn {m} {block} {after} z t d h = record {
+      few = h;
+      passed = k.passed ++ block;
+      counted = omega (arith, k.counted, z, zeros_append k.passed block);
+      is =
+          k.is
+          ∙ ap (λ (xs : List ℕ). k.passed ++ xs) (sym (take-append-drop 64 rest))
+          ∙ rw (t, d) (sym (append_assoc k.passed (take 64 rest) (drop 64 rest)));
     }
 
-    pub count_zero : get_or b i 0 ≡ 0 → Counted b i (i + 1) 1
-    unfolding zeros
-    count_zero z = count_one (omega arith) (simp (eq-eqb (get_or b i 0) 0 z))
-
-    pub count_byte : (get_or b i 0 ≡ 0 → ⊥) → Counted b i (i + 1) 0
-    unfolding zeros
-    count_byte z = count_one (omega arith) (simp (ne_eqb (get_or b i 0) 0 z))
-
-  module _ {start i e n : ℕ} (c : Counted b start i n) (h : i ≤ e) (l : e ≤ i) where
-    pub count_end : Counted b start e n
-    count_end =
-        let z : i ≡ e = omega arith in
-        rw z at c
-
-    pub count_last : n + 1 ≡ length (pieces (slice start e b))
-    count_last = omega (arith, count_end.is, length_pieces (slice start e b))
+    pub count_last : {i : ℕ} → length rest ≤ i → {m : ℕ} → m ≡ zeros (take i rest) → n + m + 1 ≡ length (pieces s)
+    count_last {i} h z = omega (arith, k.counted, z, ap zeros (take_all i rest h), ap zeros k.is, zeros_append k.passed rest, length_pieces s)
 
 -- ---- finding a piece
 
--- k pieces begin before or at i, the last of them open there; the one that is looked for is index - k further on
-pub record Seeking (b : List ℕ) (e index k i : ℕ) : Type 0 where
-  pub inside : e ≤ length b
-  pub bound : i ≤ e
+-- of a heap whose last bytes are s, k pieces begin before or at byte i of s, the last of them open there; the one that is looked for is
+-- index - k further on
+pub record Seeking (heap : List ℕ) (index : ℕ) (s : List ℕ) (k i : ℕ) : Type 0 where
+  pub bound : i ≤ length s
   pub order : k ≤ index
-  pub most : index - k < length (pieces (slice i e b))
-  pub rest : drop (index - k) (pieces (slice i e b)) ≡ drop (index - 1) (heap_pieces b e)
+  pub most : index - k < length (pieces (drop i s))
+  pub rest : drop (index - k) (pieces (drop i s)) ≡ drop (index - 1) (pieces heap)
 
 onto_later : (x : ℕ) (ps : List (List ℕ)) (j : ℕ) → 1 ≤ length ps → drop (suc j) (onto x ps) ≡ drop (suc j) ps
 onto_later x [] j h = absurd (omega arith)
@@ -107,7 +87,7 @@ onto_later x (p ∷ ps) j h = refl
 
 -- the pieces that begin after xs
 pieces_later : (xs ys : List ℕ) (j : ℕ) → drop (zeros xs + suc j) (pieces (xs ++ ys)) ≡ drop (suc j) (pieces ys)
-unfolding pieces zeros
+unfolding pieces
 pieces_later [] ys j =
     let z : 0 + suc j ≡ suc j = omega arith in
     rw z
@@ -115,9 +95,10 @@ pieces_later (x ∷ xs) ys j =
     let z : 1 + zeros xs + suc j ≡ suc (zeros xs + suc j) = omega arith in
     let y : 0 + zeros xs + suc j ≡ suc (zeros xs + j) = omega arith in
     let w : zeros xs + suc j ≡ suc (zeros xs + j) = omega arith in
-    either (eqb x 0)
+    rw (zeros_cons x xs)
+    (either (eqb x 0)
     (λ e. simp e (rw z (pieces_later xs ys j)))
-    (λ e. simp e (rw y (onto_later x (pieces (xs ++ ys)) (zeros xs + j) (pieces_some (xs ++ ys)) ∙ rw w at (pieces_later xs ys j))))
+    (λ e. simp e (rw y (onto_later x (pieces (xs ++ ys)) (zeros xs + j) (pieces_some (xs ++ ys)) ∙ rw w at (pieces_later xs ys j)))))
 
 pub from_here : (i : ℕ) (b : List ℕ) (e : ℕ) → i ≤ e → pieces_from b e i ≡ pieces (slice i e b)
 unfolding pieces_from
@@ -128,146 +109,116 @@ pub heap_begins : (b : List ℕ) {e : ℕ} → 1 ≤ length (heap_pieces b e) �
 unfolding pieces_from
 heap_begins b {e} h = either (leb 40 e) (λ t. leb-true 40 e t) (λ t. absurd (omega (arith, simp t at h)))
 
-module _ {b : List ℕ} {e index : ℕ} (p : HasPiece b e index) where
-  pub piece_heap : 40 ≤ e
-  piece_heap = heap_begins b (omega (arith, p.least, p.most))
-
-  pub first_starts : index ≡ 1 → HasPieceAt b e index 40
-  first_starts z = rw z (record { inside = piece_heap; stands = record { rest = refl } })
-
-  pub seek_start : (index ≡ 1 → ⊥) → {s : Skipped} → Skips b 40 e (index - 2) s → Seeking b e index (s.zeros + 1) s.at
-  seek_start m {s} k =
-      let xs : List ℕ = slice 40 s.at b in
-      let ys : List ℕ = slice s.at e b in
-      let split : heap_pieces b e ≡ pieces (xs ++ ys) = from_here 40 b e piece_heap ∙ ap pieces (slice_split 40 s.at e b k.counted.order k.bound) in
-      let j : ℕ = index - 2 - s.zeros in
-      let n : index - (s.zeros + 1) ≡ suc j = omega (arith, p.least, k.few) in
-      let z : index - 1 ≡ zeros xs + suc j = omega (arith, p.least, k.few, k.counted.is) in
+module _ {heap : List ℕ} {index : ℕ} where
+  pub seek_start : HasPiece heap index → (index ≡ 1 → ⊥) → {n : ℕ} {s : List ℕ} → Skips heap (index - 2) n s → Seeking heap index s (n + 1) 0
+  seek_start p m {n} {s} k =
+      let split : pieces heap ≡ pieces (k.passed ++ s) = ap pieces k.is in
+      let j : ℕ = index - 2 - n in
+      let y : index - (n + 1) ≡ suc j = omega (arith, p.least, k.few) in
+      let z : index - 1 ≡ zeros k.passed + suc j = omega (arith, p.least, k.few, k.counted) in
       record {
-        inside = p.inside;
-        bound = k.bound;
+        bound = omega arith;
         order = omega (arith, p.least, k.few);
-        most = omega (arith, p.most, p.least, k.few, k.counted.is, ap length split, length_pieces (xs ++ ys), zeros_append xs ys, length_pieces ys);
-        rest = rw (n, z, split) (sym (pieces_later xs ys j));
+        most = omega (arith, p.most, p.least, k.few, k.counted, ap length split, length_pieces (k.passed ++ s), zeros_append k.passed s, length_pieces s);
+        rest = rw (y, z, split) (sym (pieces_later k.passed s j));
       }
 
-module _ {b : List ℕ} {e index : ℕ} where
-  module _ {k i : ℕ} (s : Seeking b e index k i) where
+  module _ {s : List ℕ} {k i : ℕ} (t : Seeking heap index s k i) where
     -- a piece further on is not the last, so a byte is left
-    pub seek_here : k < index → i < e
+    pub seek_here : k < index → i < length s
     unfolding pieces
     seek_here h =
-        either (ltb i e) (λ t. ltb-true i e t)
-        (λ t. let z : i ≡ e = omega (arith, s.bound, ltb-false i e t) in
-        let l : length (pieces (slice i e b)) ≡ 1 = ap (λ (j : ℕ). length (pieces (slice j e b))) z ∙ ap (λ (xs : List ℕ). length (pieces xs)) (slice_empty e b) in
-        absurd (omega (arith, s.most)))
-
-    pub seek_read : k < index → i < length b
-    seek_read h = omega (arith, seek_here h, s.inside)
-
-    pub seek_less : k < index → e - (i + 1) < e - i
-    seek_less h = omega (arith, seek_here h)
+        either (ltb i (length s)) (λ u. ltb-true i (length s) u)
+        (λ u. let z : i ≡ length s = omega (arith, t.bound, ltb-false i (length s) u) in
+        let l : length (pieces (drop i s)) ≡ 1 = ap (λ (j : ℕ). length (pieces (drop j s))) z ∙ ap (λ (xs : List ℕ). length (pieces xs)) (drop-length s) in
+        absurd (omega (arith, t.most)))
 
     module _ (h : k < index) where
-      cut : slice i e b ≡ get_or b i 0 ∷ slice (i + 1) e b
-      cut = one_byte b i e (seek_here h) s.inside
+      cut : drop i s ≡ get_or s i 0 ∷ drop (i + 1) s
+      cut = rw add-one (drop-cons s i 0 (seek_here h))
 
       next_is : index - k ≡ suc (index - (k + 1))
       next_is = omega arith
 
-      pub seek_zero : get_or b i 0 ≡ 0 → Seeking b e index (k + 1) (i + 1)
+      pub seek_zero : get_or s i 0 ≡ 0 → Seeking heap index s (k + 1) (i + 1)
       seek_zero z =
-          let a : i < e = seek_here h in
-          let q : pieces (slice i e b) ≡ [] ∷ pieces (slice (i + 1) e b) = ap pieces cut ∙ pieces_zero (get_or b i 0) (slice (i + 1) e b) z in
+          let a : i < length s = seek_here h in
+          let q : pieces (drop i s) ≡ [] ∷ pieces (drop (i + 1) s) = ap pieces cut ∙ pieces_zero (get_or s i 0) (drop (i + 1) s) z in
           record {
-            inside = s.inside;
             bound = omega arith;
             order = omega arith;
-            most = omega (arith, s.most, ap length q);
-            rest = sym (ap (drop (suc (index - (k + 1)))) q) ∙ sym (ap (λ (j : ℕ). drop j (pieces (slice i e b))) next_is) ∙ s.rest;
+            most = omega (arith, t.most, ap length q);
+            rest = sym (ap (drop (suc (index - (k + 1)))) q) ∙ sym (ap (λ (j : ℕ). drop j (pieces (drop i s))) next_is) ∙ t.rest;
           }
 
-      pub seek_byte : (get_or b i 0 ≡ 0 → ⊥) → Seeking b e index k (i + 1)
+      pub seek_byte : (get_or s i 0 ≡ 0 → ⊥) → Seeking heap index s k (i + 1)
       seek_byte z =
-          let a : i < e = seek_here h in
-          let r : List (List ℕ) = pieces (slice (i + 1) e b) in
-          let m : 1 ≤ length r = pieces_some (slice (i + 1) e b) in
-          let q : pieces (slice i e b) ≡ onto (get_or b i 0) r = ap pieces cut ∙ pieces_byte (get_or b i 0) (slice (i + 1) e b) z in
-          let l : length (pieces (slice i e b)) ≡ length r = ap length q ∙ length_onto (get_or b i 0) r m in
+          let a : i < length s = seek_here h in
+          let r : List (List ℕ) = pieces (drop (i + 1) s) in
+          let m : 1 ≤ length r = pieces_some (drop (i + 1) s) in
+          let q : pieces (drop i s) ≡ onto (get_or s i 0) r = ap pieces cut ∙ pieces_byte (get_or s i 0) (drop (i + 1) s) z in
+          let l : length (pieces (drop i s)) ≡ length r = ap length q ∙ length_onto (get_or s i 0) r m in
           record {
-            inside = s.inside;
             bound = omega arith;
-            order = s.order;
-            most = omega (arith, s.most);
+            order = t.order;
+            most = omega (arith, t.most);
             rest =
                 ap (λ (j : ℕ). drop j r) next_is
-                ∙ sym (onto_later (get_or b i 0) r (index - (k + 1)) m)
+                ∙ sym (onto_later (get_or s i 0) r (index - (k + 1)) m)
                 ∙ sym (ap (drop (suc (index - (k + 1)))) q)
-                ∙ sym (ap (λ (j : ℕ). drop j (pieces (slice i e b))) next_is)
-                ∙ s.rest;
+                ∙ sym (ap (λ (j : ℕ). drop j (pieces (drop i s))) next_is)
+                ∙ t.rest;
           }
-
-    pub seek_last : index ≤ k → HasPieceAt b e index i
-    seek_last h =
-        let z : index - k ≡ 0 = omega arith in
-        record { inside = s.bound; stands = record { rest = from_here i b e s.bound ∙ ap (λ (j : ℕ). drop j (pieces (slice i e b))) (sym z) ∙ s.rest } }
 
 -- ---- where a piece ends
 
--- bytes before the first piece
-abbrev pub ahead : List ℕ → List (List ℕ) → List (List ℕ)
-ahead xs ps = (xs ++ get_or ps 0 []) ∷ drop 1 ps
+before_at : (s : List ℕ) (i : ℕ) → get_or s i 0 ≡ 0 → before_zero (drop i s) ≡ []
+before_at s i z =
+    either (ltb i (length s))
+    (λ t. rw (drop-cons s i 0 (ltb-true i (length s) t)) (before_zero_lem (get_or s i 0) (drop (suc i) s) z))
+    (λ t. rw (drop_of_length-le s (ltb-false i (length s) t)) before_none)
 
-ahead_onto : (xs : List ℕ) (x : ℕ) (ps : List (List ℕ)) → ahead xs (onto x ps) ≡ ahead (xs ++ x ∷ []) ps
-ahead_onto xs x [] = rw append-nil
-ahead_onto xs x (p ∷ ps) = rw append_snoc
+module _ {s : List ℕ} where
+  pub run_start : Running s 0
+  run_start = record { inside = omega arith; is = refl }
 
--- no zero byte from start up to i
-pub record Running (b : List ℕ) (start e i : ℕ) : Type 0 where
-  pub inside : e ≤ length b
-  pub order : start ≤ i
-  pub bound : i ≤ e
-  pub is : pieces (slice start e b) ≡ ahead (slice start i b) (pieces (slice i e b))
-
-module _ {b : List ℕ} {start e : ℕ} where
-  pub run_start : (start ≤ e) × (e ≤ length b) → Running b start e start
-  run_start h = record {
-    inside = h.1;
-    order = omega arith;
-    bound = h.0;
-    is = rw (slice_empty start b) (drop-cons (pieces (slice start e b)) 0 [] (pieces_some (slice start e b)));
-  }
-
-  module _ {i : ℕ} (r : Running b start e i) where
-    pub run_byte : i < e → (get_or b i 0 ≡ 0 → ⊥) → Running b start e (i + 1)
+  module _ {i : ℕ} (r : Running s i) where
+    pub run_byte : i < length s → (get_or s i 0 ≡ 0 → ⊥) → Running s (i + 1)
     run_byte h z =
-        let s : List ℕ = slice start i b in
-        let ps : List (List ℕ) = pieces (slice (i + 1) e b) in
-        record {
-          inside = r.inside;
-          order = omega (arith, r.order);
-          bound = omega arith;
+        let m : suc i ≡ i + 1 = omega arith in
+        let next : Running s (suc i) = record {
+          inside = omega arith;
           is =
               r.is
-              ∙ ap (λ (xs : List ℕ). ahead s (pieces xs)) (one_byte b i e h r.inside)
-              ∙ ap (ahead s) (pieces_byte (get_or b i 0) (slice (i + 1) e b) z)
-              ∙ ahead_onto s (get_or b i 0) ps
-              ∙ ap (λ (x : List ℕ). ahead x ps) (sym (slice_more b start i r.order (omega (arith, r.inside))));
-        }
+              ∙ ap (λ (xs : List ℕ). take i s ++ before_zero xs) (drop-cons s i 0 h)
+              ∙ ap (λ (xs : List ℕ). take i s ++ xs) (before_more (get_or s i 0) (drop (suc i) s) z)
+              ∙ sym (append_assoc (take i s) (get_or s i 0 ∷ []) (before_zero (drop (suc i) s)))
+              ∙ ap (λ (xs : List ℕ). xs ++ before_zero (drop (suc i) s)) (sym (take-suc s i 0 h));
+        } in
+        rw m at next
 
-    ends : pieces (slice i e b) ≡ [] ∷ pieces_from b e (i + 1) → FirstPiece b start e i
-    ends z = record { order = r.order; inside = r.bound; is = r.is ∙ ap (ahead (slice start i b)) z ∙ rw append-nil }
+    pub run_zero : get_or s i 0 ≡ 0 → FirstPiece s i
+    run_zero z = record { inside = r.inside; is = r.is ∙ ap (λ (xs : List ℕ). take i s ++ xs) (before_at s i z) ∙ append-nil (take i s) }
 
-    pub run_zero : i < e → get_or b i 0 ≡ 0 → FirstPiece b start e i
-    unfolding pieces_from
-    run_zero h z =
-        ends (simp (le-leb (i + 1) e (omega arith)) (ap pieces (one_byte b i e h r.inside) ∙ pieces_zero (get_or b i 0) (slice (i + 1) e b) z))
-
-    pub run_last : e ≤ i → FirstPiece b start e i
-    unfolding pieces pieces_from
+    pub run_last : length s ≤ i → FirstPiece s (length s)
     run_last h =
-        let z : i ≡ e = omega (arith, r.bound) in
-        ends (simp (lt-leb (i + 1) e (omega arith)) (rw (z, slice_empty e b)))
+        let z : i ≡ length s = omega (arith, r.inside) in
+        rw z at (run_zero (get_or-eq_default s 0 h))
+
+-- the first piece, and those after the zero byte that ends it
+first_pieces : (s : List ℕ) → let n = length (before_zero s) in pieces s ≡ before_zero s ∷ cond (leb (n + 1) (length s)) (pieces (drop (n + 1) s)) []
+unfolding before_zero pieces
+first_pieces [] = refl
+first_pieces (x ∷ s) =
+    let z : suc (length (before_zero s)) + 1 ≡ suc (length (before_zero s) + 1) = omega arith in
+    either (eqb x 0)
+    (λ t. simp t (simp (le-leb 1 (length (x ∷ s)) (omega arith))))
+    (λ t. simp t (rw (z, leb-suc-suc (length (before_zero s) + 1) (length s)) (ap (onto x) (first_pieces s))))
+
+pub pieces_first : {s : List ℕ} {n : ℕ} → FirstPiece s n → pieces s ≡ before_zero s ∷ cond (leb (n + 1) (length s)) (pieces (drop (n + 1) s)) []
+pieces_first {s} {n} f =
+    let z : n ≡ length (before_zero s) = omega (arith, ap length f.is, length-take n s, f.inside) in
+    rw z (first_pieces s)
 
 -- ---- walking the heap
 
@@ -277,9 +228,6 @@ unfolding name_bytes
 name_is b {e} {i} some h = simp (ne_eqb i 0 some) (ap (λ (ps : List (List ℕ)). get_or ps (i - 1) []) (sym (from_here 40 b e h)))
 
 module _ {b : List ℕ} {e : ℕ} where
-  pub stand_start : PieceBegins b e 0 40
-  stand_start = record { rest = refl }
-
   module _ {x start : ℕ} (s : PieceBegins b e x start) where
     -- the empty name has no bytes
     pub stand_empty : x ≡ 0 → PieceBegins b e (x + 1) start
@@ -294,11 +242,21 @@ module _ {b : List ℕ} {e : ℕ} where
           either (leb start e) (λ t. leb-true start e t)
           (λ t. absurd (omega (arith, ap length (simp t at s.rest), length-drop (x - 1) (heap_pieces b e))))
 
-      module _ {i : ℕ} (f : FirstPiece b start e i) where
-        here : slice start i b ∷ pieces_from b e (i + 1) ≡ drop (x - 1) (heap_pieces b e)
-        here = sym f.is ∙ sym (from_here start b e stand_inside) ∙ s.rest
+      module _ (l : e ≤ length b) {rest : List ℕ} (r : rest ≡ slice start e b) {n : ℕ} (f : FirstPiece rest n) where
+        here : before_zero rest ∷ pieces_from b e (start + n + 1) ≡ drop (x - 1) (heap_pieces b e)
+        unfolding pieces_from
+        here =
+            let w : length rest ≡ e - start = ap length r ∙ length-slice start e b l in
+            let j : start + (n + 1) ≡ start + n + 1 = omega arith in
+            let d : drop (n + 1) rest ≡ slice (start + n + 1) e b =
+            ap (drop (n + 1)) r ∙ drop-drop (n + 1) start (take e b) ∙ ap (λ (k : ℕ). drop k (take e b)) j in
+            let all : pieces rest ≡ drop (x - 1) (heap_pieces b e) = ap pieces r ∙ sym (from_here start b e stand_inside) ∙ s.rest in
+            either (leb (n + 1) (length rest))
+            (λ t. simp (le-leb (start + n + 1) e (omega (arith, w, leb-true (n + 1) (length rest) t)))
+            (ap (λ (xs : List ℕ). before_zero rest ∷ pieces xs) (sym d) ∙ sym (simp t at (pieces_first f)) ∙ all))
+            (λ t. simp (lt-leb (start + n + 1) e (omega (arith, w, leb-false (n + 1) (length rest) t))) (sym (simp t at (pieces_first f)) ∙ all))
 
-        pub stand_name : slice start i b ≡ name_bytes b e x
+        pub stand_name : before_zero rest ≡ name_bytes b e x
         stand_name =
             let z : x - 1 + 0 ≡ x - 1 = omega arith in
             ap (λ (ps : List (List ℕ)). get_or ps 0 []) here
@@ -306,27 +264,19 @@ module _ {b : List ℕ} {e : ℕ} where
             ∙ ap (λ (k : ℕ). get_or (heap_pieces b e) k []) z
             ∙ sym (name_is b some (heap_begins b (omega arith)))
 
-        pub stand_next : PieceBegins b e (x + 1) (i + 1)
+        pub stand_next : PieceBegins b e (x + 1) (start + n + 1)
         stand_next =
             let z : x - 1 + 1 ≡ x + 1 - 1 = omega arith in
             record { rest = rw z at (ap (drop 1) here ∙ drop-drop 1 (x - 1) (heap_pieces b e)) }
 
 -- ---- a name
 
-module _ {b : List ℕ} {e index : ℕ} (n : HasName b e index) where
-  module _ (least : 1 ≤ index) where
-    pub named_heap : 40 ≤ e
-    named_heap = heap_begins b (omega (arith, n.most))
+module _ {b : List ℕ} {e index : ℕ} (n : HasName b e index) (least : 1 ≤ index) where
+  pub named_heap : 40 ≤ e
+  named_heap = heap_begins b (omega (arith, n.most))
 
-    pub named_piece : index ≤ length (pieces (heap_of b e))
-    named_piece = omega (arith, n.most, ap length (from_here 40 b e named_heap))
-
-  module _ (some : index ≡ 0 → ⊥) where
-    pub has_piece : HasPiece b e index
-    has_piece = record { inside = n.inside; least = omega arith; most = n.most }
-
-    pub name_found : {i j : ℕ} → HasPieceAt b e index i → FirstPiece b i e j → slice i j b ≡ name_bytes b e index
-    name_found s f = stand_name s.stands some n.most f
+  pub named_piece : index ≤ length (pieces (heap_of b e))
+  named_piece = omega (arith, n.most, ap length (from_here 40 b e named_heap))
 
 -- ---- where a piece begins
 
@@ -392,46 +342,25 @@ piece_at (x ∷ xs) k h =
     (λ t. simp t (after_zero x xs (pieces xs) each k (simp t at h)))
     (λ t. simp t (in_piece x xs (pieces xs) (pieces_some xs) each k (simp t at h)))
 
--- where a piece begins there is a heap, and the pieces from there on are its last
-module _ {b : List ℕ} {e index i : ℕ} (s : HasPieceAt b e index i) where
-  begins : 40 ≤ e
-  begins =
-      let from = ap length (sym (from_here i b e s.inside) ∙ s.stands.rest) in
-      heap_begins b (omega (arith, from, pieces_some (slice i e b), length-drop (index - 1) (heap_pieces b e)))
+-- the pieces of the rest leave their own length for those before them
+module _ (heap rest : List ℕ) (index : ℕ) (s : pieces rest ≡ drop (index - 1) (pieces heap)) where
+  pub starts_place : length heap ≡ length_with_zeros (take (index - 1) (pieces heap)) + length rest
+  starts_place =
+      let ps : List (List ℕ) = pieces heap in
+      let k : ℕ = index - 1 in
+      let cut = ap length_with_zeros (sym (take-append-drop k ps)) ∙ lengths_append (take k ps) (drop k ps) in
+      omega (arith, lengths_pieces heap, cut, ap length_with_zeros s, lengths_pieces rest)
 
-  last_pieces : pieces (slice i e b) ≡ drop (index - 1) (pieces (heap_of b e))
-  last_pieces = sym (from_here i b e s.inside) ∙ s.stands.rest ∙ ap (drop (index - 1)) (from_here 40 b e begins)
+  pub rest_name : before_zero rest ≡ get_or (pieces heap) (index - 1) []
+  rest_name =
+      let z : index - 1 + 0 ≡ index - 1 = omega arith in
+      sym (ap (λ (qs : List (List ℕ)). get_or qs 0 []) (first_pieces rest))
+      ∙ ap (λ (qs : List (List ℕ)). get_or qs 0 []) s
+      ∙ get_or-drop (index - 1) (pieces heap) 0 []
+      ∙ ap (λ (k : ℕ). get_or (pieces heap) k []) z
 
--- the pieces from i on leave their own length for those before them
-pub starts_place : {b : List ℕ} {e index i : ℕ} → e ≤ length b → HasPieceAt b e index i → i ≡ name_start b e index
-starts_place {b} {e} {index} {i} l s =
-    let ps : List (List ℕ) = pieces (heap_of b e) in
-    let k : ℕ = index - 1 in
-    let h : 40 ≤ e = begins s in
-    let whole = lengths_pieces (heap_of b e) in
-    let cut = ap length_with_zeros (sym (take-append-drop k ps)) ∙ lengths_append (take k ps) (drop k ps) in
-    let rest = ap length_with_zeros (last_pieces s) in
-    omega (arith, whole, cut, rest, lengths_pieces (slice i e b), length-slice i e b l, length-slice 40 e b l, s.inside)
-
--- the first piece is what stands before the first zero byte
-first_piece : (xs : List ℕ) → get_or (pieces xs) 0 [] ≡ before_zero xs
-unfolding pieces
-first_piece [] = sym before_none
-first_piece (x ∷ xs) =
-    either (eqb x 0)
-    (λ t. simp t (sym (before_zero_lem x xs (eqb-true x 0 t))))
-    (λ t. simp t (grown (pieces xs) (pieces_some xs) ∙ ap (λ (ys : List ℕ). x ∷ ys) (first_piece xs) ∙ sym (before_more x xs (eqb-false x 0 t))))
-  where
-    grown : (ps : List (List ℕ)) → 1 ≤ length ps → get_or (onto x ps) 0 [] ≡ x ∷ get_or ps 0 []
-    grown [] h = absurd (omega arith)
-    grown (p ∷ ps) h = refl
-
-pub starts_name : {b : List ℕ} {e index i : ℕ} → (index ≡ 0 → ⊥) → HasPieceAt b e index i → before_zero (slice i e b) ≡ name_bytes b e index
+-- the bytes of a stored name, by the heap from its piece on
+pub name_found : (b : List ℕ) (e index : ℕ) → (index ≡ 0 → ⊥) → {rest : List ℕ} → pieces rest ≡ drop (index - 1) (pieces (heap_of b e)) → {n : ℕ} → FirstPiece rest n
+    → take n rest ≡ name_bytes b e index
 unfolding name_bytes
-starts_name {b} {e} {index} {i} some s =
-    let ps : List (List ℕ) = pieces (heap_of b e) in
-    let z : index - 1 + 0 ≡ index - 1 = omega arith in
-    sym (first_piece (slice i e b))
-    ∙ ap (λ (qs : List (List ℕ)). get_or qs 0 []) (last_pieces s)
-    ∙ get_or-drop (index - 1) ps 0 []
-    ∙ simp (ne_eqb index 0 some) (ap (λ (k : ℕ). get_or ps k []) z)
+name_found b e index some {rest} s f = sym f.is ∙ rest_name (heap_of b e) rest index s ∙ sym (simp (ne_eqb index 0 some))

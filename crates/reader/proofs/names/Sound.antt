@@ -6,7 +6,7 @@ use Rattle.std.specs.Prelude.{Some}
 use Prim.Native.Nat.{ℕ, zero, suc, ◌-◌, ◌≤◌}
 use native.Mathlib.Omega.{arith}
 use borrow.Author.Tests.{ne_eqb}
-use lib.ListN.{length, get_or}
+use lib.ListN.{length, get_or, drop}
 use lib.Seq.{drop-cons}
 use Rattle.text.specs.Unicode.{utf8, utf8s}
 use Rattle.text.specs.Utf8.{scalars8}
@@ -15,9 +15,13 @@ use Rattle.text.proofs.TestLaws.{equal_or}
 use Rattle.text.proofs.Utf8Laws.{scalars8_utf8s, scalars8_empty, spelled}
 use Rattle.text.proofs.utf8.Lossy.{sound_replaced}
 use Rattle.reader.specs.Names.{onto, pieces, heap_of, name_bytes, shown_name}
-use Rattle.reader.proofs.names.Pieces.{ahead, pieces_some, pieces_zero, pieces_byte}
+use Rattle.reader.proofs.names.Pieces.{pieces_some, pieces_zero, pieces_byte}
 
 -- ---- cutting and encoding change places
+
+-- bytes before the first piece
+abbrev ahead : List ℕ → List (List ℕ) → List (List ℕ)
+ahead xs ps = (xs ++ get_or ps 0 []) ∷ drop 1 ps
 
 pieces_ahead : (xs ys : List ℕ) → Without 0 xs → pieces (xs ++ ys) ≡ ahead xs (pieces ys)
 pieces_ahead [] ys n = drop-cons (pieces ys) 0 [] (pieces_some ys)

@@ -1,4 +1,4 @@
--- Check 8, and the object of one id.
+-- The object of one id.
 -- Assumes nothing.
 use mathlib.Core.Path.{◌≡◌, sym, ap, ◌∙◌, subst}
 use mathlib.Core.Bool.{false}
@@ -6,23 +6,23 @@ use mathlib.Core.List.{List}
 use Prim.Native.Nat.{ℕ, ◌+◌, ◌*◌, ◌≤◌, ◌<◌}
 use native.Mathlib.Omega.{arith}
 use borrow.Author.Tests.{eq-eqb, ne_eqb, ltb-true}
-use lib.Dec.{leb, eqb, ltb}
-use lib.ListN.{length}
+use lib.Dec.{eqb, ltb}
+use lib.ListN.{length, get_or}
 use Rattle.std.specs.Prelude.{IsErr, Ok, Result as Reply}
 use Rattle.std.specs.Result.{IsErrAnd}
 use Rattle.std.proofs.lemmas.Result.{IfOk-from_err}
 use Rattle.text.specs.Errors.{failure_of}
-use Rattle.text.specs.Result.{ok, error, check, map_result}
+use Rattle.text.specs.Result.{ok, error, map_result}
 use Rattle.text.specs.declared.error.MatError.{MatError}
 use Rattle.text.proofs.ReplyLaws.{handed_on}
-use Rattle.text.proofs.ResultLaws.{check_passed, check_is}
+use Rattle.text.proofs.ResultLaws.{check_is}
 use Rattle.text.proofs.TestLaws.{either}
 use Rattle.reader.specs.Blocks.{block_end, block_at}
 use Rattle.reader.specs.Stages.Blocks.{HasBlock}
 use Rattle.reader.specs.Objects.{region_of, block_id_of, region_start, region_blocks, check_block, block_start, property_count, object_row, record_row}
 use Rattle.reader.specs.Stages.Objects.{number_of, block_of, row_from, ReadsObject}
 use Rattle.reader.specs.Stages.Opening.{Opens}
-use Rattle.reader.specs.Queries.{check_object, object_record}
+use Rattle.reader.specs.Queries.{object_record}
 use Rattle.reader.specs.Wire.{u32_at}
 use Rattle.reader.specs.declared.file_wrapper.FileWrapper.{FileWrapper}
 use Rattle.reader.specs.declared.objects.BlockId.{BlockId}
@@ -33,26 +33,18 @@ use Rattle.reader.specs.declared.objects.Region.TheVariants.{Saved, Normal}
 use Rattle.reader.specs.declared.records.ObjectRecord.{ObjectRecord}
 use Rattle.reader.proofs.blocks.Laws.{blocks_inside}
 
--- ---- check 8: an id that passed has a record
-
-pub id_below : (w : FileWrapper) (id : ℕ) {u : Unit {0}} → ok u ≡ check_object w id → id < w.records
-unfolding check_object
-id_below w id e =
-    let p = check_passed 8 (leb 1 id) id (check 8 (ltb id w.records) id) (sym e) in
-    ltb-true id w.records (check_is 8 (ltb id w.records) id p.1)
-
--- ---- the row of an object that passed it
+-- ---- the row of an object that passed check 10
 
 pub region_has : {b : List ℕ} {w : FileWrapper} → Opens b w → (g : Region) {k : ℕ} → k < region_blocks w (number_of g) → HasBlock 12 b (region_start w (number_of g)) k
 region_has {b} {w} o Saved h = record {
   most = o.most;
   small = omega arith;
-  inside = λ j l. let i = blocks_inside 12 b w.offsets.o1 w.offsets.o2 o.saveobj_blocks j (omega arith) in omega (arith, o, i);
+  inside = λ j l. let i = blocks_inside 12 b (get_or w.offsets 1 0) (get_or w.offsets 2 0) o.saveobj_blocks j (omega arith) in omega (arith, o, i);
 }
 region_has {b} {w} o Normal h = record {
   most = o.most;
   small = omega arith;
-  inside = λ j l. let i = blocks_inside 12 b w.offsets.o3 w.offsets.o4 o.normalobj_blocks j (omega arith) in omega (arith, o, i);
+  inside = λ j l. let i = blocks_inside 12 b (get_or w.offsets 3 0) (get_or w.offsets 4 0) o.normalobj_blocks j (omega arith) in omega (arith, o, i);
 }
 
 region_is : (r : ObjectRecord) → number_of (block_of r).region ≡ region_of r
@@ -89,7 +81,7 @@ module _ (b : List ℕ) (w : FileWrapper) (r : ObjectRecord) (passed : check_blo
 
 -- ---- one object
 
-pub record_inside : {b : List ℕ} {w : FileWrapper} {id : ℕ} → Opens b w → id < w.records → w.offsets.o2 + 24 * id + 24 ≤ length b
+pub record_inside : {b : List ℕ} {w : FileWrapper} {id : ℕ} → Opens b w → id < w.records → get_or w.offsets 2 0 + 24 * id + 24 ≤ length b
 record_inside o h = omega (arith, o, o.object_records)
 
 of_id : {b : List ℕ} {w : FileWrapper} (id : ℕ) {r : ObjectRecord} → r ≡ object_record b w id → {x : Reply LocatedObject MatError}

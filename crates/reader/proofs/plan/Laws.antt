@@ -1,5 +1,6 @@
 -- The index of blocks has room for both regions.
 -- Assumes nothing.
+use lib.ListN.{get_or}
 use Prim.Native.Nat.{ℕ, ◌+◌, ◌*◌, ◌/◌, ◌≤◌, ◌<◌}
 use native.Mathlib.Nat.{add-mul, div-mul-le_self, lt_of_mul-lt-mul_right}
 use native.Mathlib.Omega.{arith}
@@ -12,7 +13,7 @@ module _ (m : Metadata) where
   few_blocks =
       let w = m.w in
       let b = m.blob.now in
-      omega (arith, m.opens, blocks_few 12 b w.offsets.o1 w.offsets.o2 w.saveobj_blocks m.opens.saveobj_blocks, blocks_few 12 b w.offsets.o3 w.offsets.o4 w.normalobj_blocks m.opens.normalobj_blocks)
+      omega (arith, m.opens, blocks_few 12 b (get_or w.offsets 1 0) (get_or w.offsets 2 0) w.saveobj_blocks m.opens.saveobj_blocks, blocks_few 12 b (get_or w.offsets 3 0) (get_or w.offsets 4 0) w.normalobj_blocks m.opens.normalobj_blocks)
 
   pub fits : (s : ℕ) → (m.w.saveobj_blocks + m.w.normalobj_blocks < 8190 * s) × (s ≤ m.w.saveobj_blocks + m.w.normalobj_blocks + 1)
       → FitsIndex m.w s (m.w.saveobj_blocks / s + 1)

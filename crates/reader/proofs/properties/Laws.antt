@@ -2,18 +2,18 @@
 -- Assumes nothing.
 use mathlib.Core.Path.{◌≡◌, refl, sym, ap, ◌∙◌, fun_ext}
 use mathlib.Core.Bool.{false}
-use mathlib.Core.List.{List, [], ◌++◌, map}
-use Prim.Native.Nat.{ℕ, zero, suc, ◌+◌, ◌-◌, ◌*◌, ◌^◌, ◌≤◌, ◌<◌, min}
+use mathlib.Core.List.{List, map}
+use Prim.Native.Nat.{ℕ, zero, suc, ◌+◌, ◌-◌, ◌*◌, ◌^◌, ◌<◌, min}
 use native.Mathlib.Omega.{arith}
 use borrow.Author.Tests.{lt-leb}
 use lib.Dec.{leb}
-use lib.ListN.{length, get_or, drop, set, length-map}
+use lib.ListN.{length, get_or, set, length-map}
 use Rattle.std.specs.Prelude.{Err}
 use Rattle.std.proofs.lemmas.List.{get_or-map}
 use Rattle.text.specs.Result.{Result, ok, error, ◌>>◌, ◌>>=◌}
 use Rattle.text.specs.declared.error.Failure.{Failure}
 use Rattle.text.specs.declared.error.MatError.TheVariants.{OutputTooShort}
-use Rattle.reader.proofs.FrontLaws.{Fronts, front_turn, front_last}
+use Rattle.reader.proofs.FrontLaws.{Fronts, front_turn, front_all}
 use Rattle.text.proofs.ResultLaws.{bind_failed, seq_bind}
 use Rattle.reader.specs.Objects.{triples_from, check_triple, check_triples, record_triples, row_of, replaced_of, record_properties, object_properties}
 use Rattle.reader.specs.Stages.Properties.{named_triples, object_triples}
@@ -24,6 +24,7 @@ use Rattle.reader.specs.Replies.{WritesRows}
 use Rattle.reader.specs.Wire.{triple_at}
 use Rattle.reader.specs.declared.file_wrapper.FileWrapper.{FileWrapper}
 use Rattle.reader.specs.declared.triples.Triples.{Triples}
+use Rattle.reader.specs.declared.properties.PropertyRow.{PropertyRow}
 use Rattle.reader.specs.declared.records.Triple.{Triple}
 
 -- ---- the checks of all
@@ -58,24 +59,24 @@ triple_at_lem b i (suc n) (suc k) t h =
     let z : i + 12 + 12 * k ≡ i + 12 * suc k = omega arith in
     triple_at_lem b (i + 12) n k t (omega arith) ∙ ap (triple_at b) z
 
-abbrev pub rows_from : Triples → List (List ℕ)
+abbrev pub rows_from : Triples → List PropertyRow
 rows_from t = map (row_of no_count) (named_triples t)
 
 module _ (t : Triples) where
   length_rows : length (rows_from t) ≡ t.count
   length_rows = length-map (named_triples t) (row_of no_count) ∙ length_triples t.metadata.blob.now t.at t.count
 
-  module _ {i : ℕ} {rows₀ rows : List (List ℕ)} (f : Fronts (rows_from t) rows₀ i rows) where
-    pub fill_turn : i < t.count → t.count ≤ length rows₀ → {k : Triple} → k ≡ triple_at t.metadata.blob.now (t.at + 12 * i)
-        → {r : List ℕ} → r ≡ row_of no_count k → Fronts (rows_from t) rows₀ (i + 1) (set rows i r)
-    fill_turn h room {k} e {r} q =
+  module _ {i : ℕ} {rows₀ rows : List PropertyRow} (f : Fronts (rows_from t) rows₀ i rows) (room : length rows₀ ≡ t.count) where
+    pub fill_turn : i < t.count → {k : Triple} → k ≡ triple_at t.metadata.blob.now (t.at + 12 * i)
+        → {r : PropertyRow} → r ≡ row_of no_count k → Fronts (rows_from t) rows₀ (i + 1) (set rows i r)
+    fill_turn h {k} e {r} q =
         let l : i < length (named_triples t) = omega (arith, length_triples t.metadata.blob.now t.at t.count) in
         let m : i < length (rows_from t) = omega (arith, length_rows) in
-        front_turn f m (omega arith) []
-        (q ∙ ap (row_of no_count) (e ∙ sym (triple_at_lem t.metadata.blob.now t.at t.count i k h)) ∙ sym (get_or-map (row_of no_count) (named_triples t) i k [] l))
+        front_turn f m (omega arith) r
+        (q ∙ ap (row_of no_count) (e ∙ sym (triple_at_lem t.metadata.blob.now t.at t.count i k h)) ∙ sym (get_or-map (row_of no_count) (named_triples t) i k r l))
 
-    pub fill_last : i ≡ t.count → rows ≡ rows_from t ++ drop t.count rows₀
-    fill_last z = front_last f z length_rows
+    pub fill_last : i ≡ t.count → rows ≡ rows_from t
+    fill_last z = front_all f z length_rows room
 
 -- ---- a query of an object's triples, and what it comes to with them
 
@@ -104,11 +105,11 @@ module _ (b : List ℕ) (id : ℕ) {A : Type 0} (of : FileWrapper → List Tripl
 -- ---- the public call
 
 module _ (b : List ℕ) (id : ℕ) where
-  abbrev counted_rows : FileWrapper → List Triple → Result (List (List ℕ))
+  abbrev counted_rows : FileWrapper → List Triple → Result (List PropertyRow)
   counted_rows w ts = ok (map (row_of (replaced_of b w)) ts)
 
   module _ (t : Triples) (e : ok (named_triples t) ≡ object_triples b id) (p : t.metadata.blob.now ≡ b) where
-    abbrev rows_of : List (List ℕ)
+    abbrev rows_of : List PropertyRow
     rows_of = map (row_of (replaced_of b t.metadata.w)) (named_triples t)
 
     come : object_properties b id ≡ ok rows_of
@@ -118,7 +119,7 @@ module _ (b : List ℕ) (id : ℕ) where
     size : length rows_of ≡ t.count
     size = length-map (named_triples t) (row_of (replaced_of b t.metadata.w)) ∙ length_triples t.metadata.blob.now t.at t.count
 
-    pub rows_short : (rows : List (List ℕ)) → length rows < t.count → WritesRows (object_properties b id) rows (Err (OutputTooShort t.count)) rows
+    pub rows_short : (rows : List PropertyRow) → length rows < t.count → WritesRows (object_properties b id) rows (Err (OutputTooShort t.count)) rows
     rows_short rows h =
         let u : leb (length rows_of) (length rows) ≡ false = lt-leb (length rows_of) (length rows) (omega (arith, size)) in
         let k : min (length rows_of) (2 ^ 64 - 1) ≡ t.count = omega (arith, size, t.passed.triples) in

@@ -1,17 +1,17 @@
 -- Counting the replacement characters of the names in rows: the walk of the name heap, and the rows that are gone over.
 -- Assumes nothing.
 use mathlib.Core.Path.{◌≡◌, refl, sym, ap, ap₂, ◌∙◌, subst, fun_ext}
-use mathlib.Core.Bool.{Bool, true, false}
-use mathlib.Core.List.{List, [], ◌∷◌, ◌++◌, map}
+use mathlib.Core.Bool.{Bool, true, false, cond, not}
+use mathlib.Core.List.{List, [], ◌∷◌, map}
 use Prim.Native.Nat.{ℕ, ◌+◌, ◌-◌, ◌≤◌, ◌<◌}
 use native.Mathlib.Omega.{arith}
-use borrow.Author.Tests.{lt-ltb, le-ltb, le-leb, lt-leb, leb-true, ltb-true, ltb-false}
+use borrow.Author.Tests.{ne_eqb, not-false, lt-ltb, le-ltb, le-leb, lt-leb, leb-true, ltb-true, ltb-false}
 use lib.Dec.{eqb, leb, ltb}
-use lib.ListN.{length, get_or, take, drop, set, length-append, length-take, length-drop, length-map}
-use lib.Seq.{take_at, drop_at}
+use lib.ListN.{length, get_or, take, drop, set, length-map}
+use lib.Seq.{slice}
 use Rattle.std.specs.Prelude.{Ok, Err, Result as Reply}
 use Rattle.std.specs.Result.{is_ok}
-use Rattle.std.proofs.lemmas.List.{take-map, get_or-map}
+use Rattle.std.proofs.lemmas.List.{get_or-map}
 use Rattle.text.specs.Replies.{error_place}
 use Rattle.text.specs.Result.{ok}
 use Rattle.text.specs.Utf8.{parts_from, first_ill_formed}
@@ -23,16 +23,17 @@ use Rattle.text.proofs.utf8.Lossy.{valid_scalars}
 use Rattle.reader.specs.Names.{heap_of, shown_bytes}
 use Rattle.reader.specs.Objects.{check_triple, check_triples, row_of, replaced_of}
 use Rattle.reader.specs.Stages.Chunks.{ToNames, value_in, Looks, FillsTable}
-use Rattle.reader.specs.Stages.Names.{heap_pieces, FirstPiece, PieceBegins, IsSize}
-use Rattle.reader.specs.Stages.Replacements.{no_count, count_below, recounted, CountsChunk, SoundNames, CountsRows}
+use Rattle.reader.specs.Stages.Names.{heap_pieces, FirstPiece, IsSize}
+use Rattle.reader.specs.Stages.Replacements.{no_count, count_below, recounted, SoundNames, CountsRows}
+use Rattle.reader.specs.declared.chunks.NameWalk.{NameWalk}
 use Rattle.reader.specs.declared.file_wrapper.FileWrapper.{FileWrapper}
 use Rattle.reader.specs.declared.file_wrapper.Metadata.{Metadata}
+use Rattle.reader.specs.declared.properties.PropertyRow.{PropertyRow}
 use Rattle.reader.specs.declared.records.Triple.{Triple}
-use Rattle.reader.specs.declared.replacements.CountWalk.{CountWalk}
 use Rattle.reader.proofs.chunks.Laws.{in_chunk}
-use Rattle.reader.proofs.FrontLaws.{Fronts, front_next, front_turn}
+use Rattle.reader.proofs.FrontLaws.{Fronts, front_next, front_turn, front_all}
 use Rattle.reader.proofs.NameLaws.{part_slice}
-use Rattle.reader.proofs.names.Pieces.{heap_begins, stand_start, stand_inside, stand_empty, stand_name, stand_next}
+use Rattle.reader.proofs.names.Pieces.{heap_begins, stand_inside, stand_empty, stand_name, stand_next}
 use Rattle.reader.proofs.names.Sound.{empty_sound, name_sound}
 
 -- ---- rows by the counts of their names
@@ -59,6 +60,18 @@ rows_same w f g h (t ∷ ts) e =
 rows_all : (f g : ℕ → ℕ) → ((i : ℕ) → f i ≡ g i) → (ts : List Triple) → map (row_of f) ts ≡ map (row_of g) ts
 rows_all f g h ts = ap (λ (c : ℕ → ℕ). map (row_of c) ts) (fun_ext h)
 
+-- a row that is gone over, by whether its value is a name
+module _ (counts : List ℕ) (first e : ℕ) (row : PropertyRow) {n : ℕ} (is : n ≡ value_in counts first e row.name_index row.name_replaced) where
+  pub recounted_name : row.field_type ≡ 0 → {v : ℕ} → v ≡ value_in counts first e row.value row.value_replaced
+      → record { name_index = row.name_index; field_type = row.field_type; value = row.value; name_replaced = n; value_replaced = v } ≡ recounted counts first e row
+  unfolding recounted
+  recounted_name t q = simp (t, is, q)
+
+  pub recounted_number : (row.field_type ≡ 0 → ⊥)
+      → record { name_index = row.name_index; field_type = row.field_type; value = row.value; name_replaced = n; value_replaced = row.value_replaced } ≡ recounted counts first e row
+  unfolding recounted
+  recounted_number t = simp (ne_eqb row.field_type 0 t, is)
+
 -- the counts of the names from first up to e put into a row
 recount_row : (counts : List ℕ) (first e : ℕ) (f : ℕ → ℕ) (t : Triple) → recounted counts first e (row_of f t) ≡ row_of (λ i. value_in counts first e i (f i)) t
 unfolding recounted
@@ -76,36 +89,38 @@ module _ {m : Metadata} {x start : ℕ} (n : ToNames m x (x + 1) start) where
   told name = (shown_bytes name).replaced
 
   pub counted_empty : x ≡ 0 → Looks m 0 told x (record { value = 0; any = false; next = start })
-  counted_empty z = record { is = rw z (sym (empty_sound m.blob.now m.w.offsets.o0)); none = λ e. refl; heap = stand_empty n.heap z }
+  counted_empty z = record { is = rw z (sym (empty_sound m.blob.now (get_or m.w.offsets 0 0))); none = λ e. refl; heap = stand_empty n.heap z }
 
   module _ (some : x ≡ 0 → ⊥) where
-    declared : x ≤ length (heap_pieces m.blob.now m.w.offsets.o0)
+    declared : x ≤ length (heap_pieces m.blob.now (get_or m.w.offsets 0 0))
     declared = omega (arith, n.few, m.opens.names)
 
-    pub count_inside : start ≤ m.w.offsets.o0
+    pub count_inside : start ≤ get_or m.w.offsets 0 0
     count_inside = stand_inside n.heap some declared
 
-    pub counted_name : {e : ℕ} → FirstPiece m.blob.now start m.w.offsets.o0 e → {s : LossySize} → IsSize (take (e - start) (drop start m.blob.now)) s
-        → Looks m 0 told x (record { value = s.replaced; any = ltb 0 s.replaced; next = e + 1 })
-    counted_name {e} f {s} i = record {
-      is = i.replaced ∙ ap told (part_slice start e m.blob.now f.order ∙ stand_name n.heap some declared f);
-      none = λ z. omega (arith, ltb-false 0 s.replaced z);
-      heap = stand_next n.heap some declared f;
-    }
+    pub counted_name : {rest : List ℕ} → rest ≡ slice start (get_or m.w.offsets 0 0) m.blob.now → {e : ℕ} → FirstPiece rest e → {s : LossySize} → IsSize (take e rest) s
+        → Looks m 0 told x (record { value = s.replaced; any = ltb 0 s.replaced; next = start + e + 1 })
+    counted_name r {e} f {s} i =
+        let l : get_or m.w.offsets 0 0 ≤ length m.blob.now = omega (arith, m.opens) in
+        record {
+          is = i.replaced ∙ ap told (sym f.is ∙ stand_name n.heap some declared l r f);
+          none = λ z. omega (arith, ltb-false 0 s.replaced z);
+          heap = stand_next n.heap some declared l r f;
+        }
 
 -- ---- the rows, one after another
 
-module _ (f : List ℕ → List ℕ) {rows₀ rows : List (List ℕ)} {i : ℕ} (m : Fronts (map f rows₀) rows₀ i rows) where
-  pub mapping_turn : i < length rows₀ → {r : List ℕ} → r ≡ f (get_or rows i []) → Fronts (map f rows₀) rows₀ (i + 1) (set rows i r)
+abbrev no_row : PropertyRow
+no_row = record { name_index = 0; field_type = 0; value = 0; name_replaced = 0; value_replaced = 0 }
+
+module _ (f : PropertyRow → PropertyRow) {rows₀ rows : List PropertyRow} {i : ℕ} (m : Fronts (map f rows₀) rows₀ i rows) where
+  pub mapping_turn : i < length rows₀ → {r : PropertyRow} → r ≡ f (get_or rows i no_row) → Fronts (map f rows₀) rows₀ (i + 1) (set rows i r)
   mapping_turn h {r} e =
       let l : i < length (map f rows₀) = omega (arith, length-map rows₀ f) in
-      front_turn m l h [] (e ∙ ap f (front_next m l h []) ∙ sym (get_or-map f rows₀ i [] [] h))
+      front_turn m l h no_row (e ∙ ap f (front_next m l h no_row) ∙ sym (get_or-map f rows₀ i no_row no_row h))
 
-  pub mapping_last : {n : ℕ} → i ≡ n → rows ≡ map f (take n rows₀) ++ drop n rows₀
-  mapping_last {n} z = rw (← take-map f n rows₀, ← z) m.is
-
-map_length : (f : List ℕ → List ℕ) (n : ℕ) (rs : List (List ℕ)) → n ≤ length rs → length (map f (take n rs) ++ drop n rs) ≡ length rs
-map_length f n rs h = simp (length-append, length-map, length-take, length-drop) (omega arith)
+  pub mapping_last : (any : Bool) → not any ≡ false → i ≡ length rows₀ → rows ≡ cond any (map f rows₀) rows₀
+  mapping_last any t z = rw (not-false any t) (front_all m z (length-map rows₀ f) refl)
 
 -- ---- a chunk of names
 
@@ -125,33 +140,14 @@ module _ {m : Metadata} {first e : ℕ} {counts : List ℕ} {any : Bool} {next :
       (λ t. simp (t, lt-ltb i e (omega (arith, ltb-true i first t, k.more))))
       (λ t. either (ltb i e) (λ u. simp (t, u) (sym (k.is.none z i (ltb-false i first t) (ltb-true i e u)))) (λ u. simp (t, u)))
 
-module _ {m : Metadata} {from : CountWalk} {e : ℕ} {counts : List ℕ} {any : Bool} {next : ℕ}
-    (k : FillsTable m 0 (λ name. (shown_bytes name).replaced) from.name e counts any next) {n : ℕ} {rows : List (List ℕ)} where
-  pub chunk_counted : n ≤ length rows → {c : ℕ} → c ≡ from.name → {rows' : List (List ℕ)} → rows' ≡ map (recounted counts c e) (take n rows) ++ drop n rows
-      → CountsChunk m n from (record { name = e; start = next }) rows rows'
-  chunk_counted room {c} at {rows'} was =
-      let is : rows' ≡ map (recounted counts from.name e) (take n rows) ++ drop n rows = rw at at was in
-      record {
-        more = k.more;
-        few = k.few;
-        heap = k.is.heap;
-        size = ap length is ∙ map_length (recounted counts from.name e) n rows room;
-        is = λ ts d l q.
-            let f : ℕ → ℕ = count_below m from.name in
-            let s : length (map (row_of f) ts) ≡ n = length-map ts (row_of f) ∙ l in
-            let front : take n rows ≡ map (row_of f) ts = ap (take n) q ∙ take_at (map (row_of f) ts) d n s in
-            let rest : drop n rows ≡ d = ap (drop n) q ∙ drop_at (map (row_of f) ts) d n s in
-            is ∙ rw (front, rest, recount_all counts from.name e f ts) (ap (λ (x : List (List ℕ)). x ++ d) (rows_all (λ i. value_in counts from.name e i (f i)) (count_below m e) (counts_next k) ts));
-      }
-
-  pub chunk_sound : any ≡ false → CountsChunk m n from (record { name = e; start = next }) rows rows
-  chunk_sound z = record {
-    more = k.more;
-    few = k.few;
-    heap = k.is.heap;
-    size = refl;
-    is = λ ts d l q. q ∙ ap (λ (x : List (List ℕ)). x ++ d) (rows_all (count_below m from.name) (count_below m e) (counts_kept k z) ts);
-  }
+  -- what rows that had the counts of the names before the chunk are gone over to
+  chunk_counted : (ts : List Triple) {rows : List PropertyRow} → rows ≡ map (row_of (count_below m first)) ts
+      → cond any (map (recounted counts first e) rows) rows ≡ map (row_of (count_below m e)) ts
+  chunk_counted ts {rows} q =
+      let f : ℕ → ℕ = count_below m first in
+      either any
+      (λ t. simp (t, q) (recount_all counts first e f ts ∙ rows_all (λ i. value_in counts first e i (f i)) (count_below m e) counts_next ts))
+      (λ t. simp (t, q) (rows_all f (count_below m e) (counts_kept t) ts))
 
 -- ---- a sound heap
 
@@ -159,56 +155,52 @@ module _ (m : Metadata) where
   pub sound_none : m.w.names ≡ 0 → SoundNames m true
   sound_none z i h =
       let y : i ≡ 0 = omega arith in
-      rw y (empty_sound m.blob.now m.w.offsets.o0)
+      rw y (empty_sound m.blob.now (get_or m.w.offsets 0 0))
 
   module _ (some : m.w.names ≡ 0 → ⊥) where
-    pub sound_begins : 40 ≤ m.w.offsets.o0
+    pub sound_begins : 40 ≤ get_or m.w.offsets 0 0
     sound_begins = heap_begins m.blob.now (omega (arith, m.opens.names))
 
-    whole : (x : Reply (Unit {0}) Utf8Error) → error_place x ≡ first_ill_formed (parts_from (take (m.w.offsets.o0 - 40) (drop 40 m.blob.now)) 0) → SoundNames m (is_ok x)
+    whole : (x : Reply (Unit {0}) Utf8Error) → error_place x ≡ first_ill_formed (parts_from (take (get_or m.w.offsets 0 0 - 40) (drop 40 m.blob.now)) 0) → SoundNames m (is_ok x)
     whole (Ok u) e = λ i h.
-        let heap : take (m.w.offsets.o0 - 40) (drop 40 m.blob.now) ≡ heap_of m.blob.now m.w.offsets.o0 = part_slice 40 m.w.offsets.o0 m.blob.now sound_begins in
-        name_sound m.blob.now m.w.offsets.o0 (valid_scalars (heap_of m.blob.now m.w.offsets.o0) {A = Unit {0}} {x = Ok u} (rw heap at e) {a = u} refl) i
+        let heap : take (get_or m.w.offsets 0 0 - 40) (drop 40 m.blob.now) ≡ heap_of m.blob.now (get_or m.w.offsets 0 0) = part_slice 40 (get_or m.w.offsets 0 0) m.blob.now sound_begins in
+        name_sound m.blob.now (get_or m.w.offsets 0 0) (valid_scalars (heap_of m.blob.now (get_or m.w.offsets 0 0)) {A = Unit {0}} {x = Ok u} (rw heap at e) {a = u} refl) i
     whole (Err f) e = tt
 
-    pub sound_whole : (x : Reply (Unit {0}) Utf8Error) → error_place x ≡ first_ill_formed (parts_from (take (m.w.offsets.o0 - 40) (drop 40 m.blob.now)) 0) → {r : Bool} → r ≡ is_ok x
+    pub sound_whole : (x : Reply (Unit {0}) Utf8Error) → error_place x ≡ first_ill_formed (parts_from (take (get_or m.w.offsets 0 0 - 40) (drop 40 m.blob.now)) 0) → {r : Bool} → r ≡ is_ok x
         → SoundNames m r
     sound_whole x e {r} g = rw g (whole x e)
 
 -- ---- all rows
 
--- the rows have the counts of the names below the next one
-pub record Counting (m : Metadata) (n : ℕ) (rows₀ rows : List (List ℕ)) (k : CountWalk) : Type 0 where
-  pub few : k.name ≤ m.w.names + 1
-  pub heap : PieceBegins m.blob.now m.w.offsets.o0 k.name k.start
-  pub size : length rows ≡ length rows₀
-  pub is :
-      (ts : List Triple) (d : List (List ℕ)) → length ts ≡ n
-      → rows₀ ≡ map (row_of no_count) ts ++ d → rows ≡ map (row_of (count_below m k.name)) ts ++ d
+-- rows of no counts have those of the names below the next one
+pub record Counting (m : Metadata) (rows₀ rows : List PropertyRow) (k : NameWalk) : Type 0 where
+  pub same : k.metadata ≡ m
+  pub is : (ts : List Triple) → rows₀ ≡ map (row_of no_count) ts → rows ≡ map (row_of (count_below m k.name)) ts
 
-module _ {m : Metadata} {n : ℕ} {rows₀ : List (List ℕ)} where
-  pub rows_sound : {r : Bool} → r ≡ true → SoundNames m r → CountsRows m n rows₀ rows₀
-  rows_sound g s = record {
-    size = refl;
-    is = λ ts d l c q. q ∙ ap (λ (x : List (List ℕ)). x ++ d) (rows_same m.w no_count (replaced_of m.blob.now m.w) (λ i h. sym (subst (SoundNames m) g s i h)) ts c);
-  }
+module _ {m : Metadata} {rows₀ : List PropertyRow} where
+  pub rows_sound : {r : Bool} → r ≡ true → SoundNames m r → CountsRows m rows₀ rows₀
+  rows_sound g s = record { is = λ ts c q. q ∙ rows_same m.w no_count (replaced_of m.blob.now m.w) (λ i h. sym (subst (SoundNames m) g s i h)) ts c }
 
-  pub counting_start : Counting m n rows₀ rows₀ (record { name = 0; start = 40 })
+  pub counting_start : {k : NameWalk} → k.metadata ≡ m → k.name ≡ 0 → Counting m rows₀ rows₀ k
   unfolding count_below
-  counting_start = record {
-    few = omega arith;
-    heap = stand_start;
-    size = refl;
-    is = λ ts d l q. q ∙ ap (λ (x : List (List ℕ)). x ++ d) (rows_all no_count (count_below m 0) (λ i. simp (le-ltb i 0 (omega arith))) ts);
+  counting_start {k} e z = record {
+    same = e;
+    is = λ ts q. q ∙ rows_all no_count (count_below m k.name) (λ i. simp (le-ltb i k.name (omega arith))) ts;
   }
 
-  module _ {rows : List (List ℕ)} {k : CountWalk} (c : Counting m n rows₀ rows k) where
-    pub counting_last : m.w.names < k.name → CountsRows m n rows₀ rows
+  module _ {rows : List PropertyRow} {k : NameWalk} (c : Counting m rows₀ rows k) where
+    pub counting_turn : {k' : NameWalk} → k'.metadata ≡ k.metadata → {first e : ℕ} → first ≡ k.name → e ≡ k'.name
+        → {counts : List ℕ} {any : Bool} → FillsTable k.metadata 0 (λ name. (shown_bytes name).replaced) k.name k'.name counts any k'.start
+        → {rows' : List PropertyRow} → rows' ≡ cond any (map (recounted counts first e) rows) rows → Counting m rows₀ rows' k'
+    counting_turn {k'} s a b {counts} {any} fills {rows'} was =
+        let t : FillsTable m 0 (λ name. (shown_bytes name).replaced) k.name k'.name counts any k'.start = rw c.same at fills in
+        let is : rows' ≡ cond any (map (recounted counts k.name k'.name) rows) rows = rw (a, b) at was in
+        record { same = s ∙ c.same; is = λ ts q. is ∙ chunk_counted t ts (c.is ts q) }
+
+    pub counting_last : m.w.names < k.name → CountsRows m rows₀ rows
     unfolding count_below
-    counting_last h = record {
-      size = c.size;
-      is = λ ts d l e q. c.is ts d l q ∙ ap (λ (x : List (List ℕ)). x ++ d) (rows_same m.w (count_below m k.name) (replaced_of m.blob.now m.w) all ts e);
-    }
+    counting_last h = record { is = λ ts e q. c.is ts q ∙ rows_same m.w (count_below m k.name) (replaced_of m.blob.now m.w) all ts e }
       where
         all : (i : ℕ) → i ≤ m.w.names → count_below m k.name i ≡ replaced_of m.blob.now m.w i
         all i l = simp (lt-ltb i k.name (omega arith))

@@ -34,12 +34,11 @@ use Rattle.writer.proofs.ArrayLaws.{payload_is, cut_again, array_accepted}
 use Rattle.writer.proofs.ShapeLaws.{shape_is}
 use Rattle.writer.proofs.WordLaws.{length_packed, padded}
 use Rattle.reader.specs.Saveobj.{dim_count, unit_count, units_before, stored_units, stored_strings, check_pairing, decode_payload, decoded_array, is_canonical_payload}
-use Rattle.reader.specs.Stages.Saveobj.{check_layout}
+use Rattle.reader.specs.Stages.Saveobj.{Layout, check_layout}
 use Rattle.reader.specs.Replies.{size_of}
 use Rattle.reader.specs.Units.{units_in}
 use Rattle.reader.specs.Stages.Units.{is_packed}
 use Rattle.reader.specs.declared.saveobj.DecodedSize.{DecodedSize}
-use Rattle.reader.specs.declared.saveobj.Layout.{Layout}
 use Rattle.reader.proofs.saveobj.HeaderLaws.{HeaderPassed, header_passed}
 use Rattle.reader.proofs.saveobj.Lengths.{count_missing, count_given, units_most}
 use Rattle.reader.proofs.units.Packed.{units_drop, units_append, repacked}

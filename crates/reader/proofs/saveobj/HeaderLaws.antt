@@ -13,8 +13,7 @@ use Rattle.text.specs.Unicode.{within}
 use Rattle.text.proofs.convert.Products.{product_passed}
 use Rattle.text.proofs.ResultLaws.{check_passed}
 use Rattle.text.proofs.TestLaws.{within_is}
-use Rattle.reader.specs.Saveobj.{dim_count, stored_dims, check_header}
-use Rattle.reader.specs.declared.saveobj.Header.{Header}
+use Rattle.reader.specs.Saveobj.{dim_count, stored_dims, Header, check_header}
 
 pub record HeaderPassed (payload : List ℕ) (base n : ℕ) : Type 0 where
   pub version : get_or payload 0 0 ≡ 1

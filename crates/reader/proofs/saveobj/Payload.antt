@@ -1,4 +1,4 @@
--- The outcomes of `read_layout`, `measure_saveobj`, `put_payload` and `decode_string_saveobj`, and what a payload that passed its checks is.
+-- The outcomes of `measure_saveobj`, `put_payload` and `decode_string_saveobj`, and what a payload that passed its checks is.
 -- Assumes nothing.
 use Prim.Native.Nat.{ℕ, zero, suc, ◌+◌, ◌-◌, ◌*◌, ◌^◌, ◌≤◌, ◌<◌, min}
 use mathlib.Core.Path.{◌≡◌, refl, sym, ap, subst, ◌∙◌}
@@ -21,14 +21,12 @@ use Rattle.text.specs.declared.error.Failure.{Failure}
 use Rattle.text.specs.declared.error.MatError.{MatError}
 use Rattle.text.proofs.BufferLaws.{put_front}
 use Rattle.text.proofs.ReplyLaws.{handed_on}
-use Rattle.text.proofs.ResultLaws.{same_value, check_passed, seq_passed, bind_passed, check_each_passed, check_is, Checks, checks_start, checks_turn, checks_stop}
+use Rattle.text.proofs.ResultLaws.{same_value, check_passed, seq_passed, seq_bind, bind_passed, check_each_passed, check_is, Checks, checks_start, checks_turn, checks_stop}
 use Rattle.writer.specs.Spans.{joined, spans_from}
-use Rattle.reader.specs.Saveobj.{units_before, stored_units, stored_strings, check_header, check_sum, check_unit_count, check_pairing, decode_payload, check_outputs, into_strings}
-use Rattle.reader.specs.Stages.Saveobj.{check_layout, UnitsChecked, StringsFit, origin, FitsAt, WritesAt}
+use Rattle.reader.specs.Saveobj.{units_before, stored_units, stored_strings, Header, check_header, check_sum, check_unit_count, check_pairing, decode_payload, check_outputs, into_strings}
+use Rattle.reader.specs.Stages.Saveobj.{Layout, check_layout, checked_units, UnitsChecked, StringsFit, origin, FitsAt, WritesAt}
 use Rattle.reader.specs.Replies.{size_of, DecodesStrings}
 use Rattle.reader.specs.declared.saveobj.DecodedSize.{DecodedSize}
-use Rattle.reader.specs.declared.saveobj.Header.{Header}
-use Rattle.reader.specs.declared.saveobj.Layout.{Layout}
 use Rattle.reader.specs.declared.saveobj.Position.{Position}
 use Rattle.reader.proofs.saveobj.HeaderLaws.{HeaderPassed, header_passed}
 use Rattle.reader.proofs.saveobj.Lengths.{sum_fits}
@@ -97,20 +95,24 @@ payload_most payload {strings} e =
       omega (arith, p.many, p.checked.lengths, p.checked.most),
     )
 
--- ---- the outcomes of `read_layout`
+-- ---- 22 to 26, then 27 and 28
+
+pub units_counted : (payload : List ℕ) (base n : ℕ) {sum : ℕ} → ok sum ≡ check_sum payload base n → sum ≤ 4 * (length payload - (base + n))
+    → ok sum ≡ checked_units payload base n
+unfolding checked_units check_unit_count
+units_counted payload base n {sum} s l = simp (sym s, le-leb sum (4 * (length payload - (base + n))) l) (rw (sum_passed payload base n (sym s)))
 
 module _ (payload : List ℕ) where
-  module _ {h : Header} (e : ok h ≡ check_header payload) where
-    pub header_inside : h.base + h.strings ≤ length payload
-    header_inside = (header_passed payload (sym e)).inside
+  pub header_refused : {f : Failure} → error f ≡ check_header payload → error f ≡ check_layout payload
+  unfolding check_layout
+  header_refused e = rw (sym e)
 
-    module _ {sum : ℕ} (s : ok sum ≡ check_sum payload h.base h.strings) where
-      pub layout_whole : sum ≤ 4 * (length payload - (h.base + h.strings))
-          → ok (record { base = h.base; strings = h.strings; units = sum }) ≡ check_layout payload
-      unfolding check_layout check_unit_count
-      layout_whole l =
-          rw (sym e)
-          (simp (sym s, le-leb sum (4 * (length payload - (h.base + h.strings))) l) (rw (sum_passed payload h.base h.strings (sym s))))
+  pub laid_out : {h : Header} → ok h ≡ check_header payload → {m : Result ℕ} → m ≡ checked_units payload h.base h.strings
+      → (m >>= λ units. ok (record { base = h.base; strings = h.strings; units = units })) ≡ check_layout payload
+  unfolding check_layout checked_units
+  laid_out {h} e d =
+      rw (d, sym e)
+      (sym (seq_bind (check_unit_count payload h.base h.strings) (ok (units_before payload h.base h.strings)) (λ units. ok (record { base = h.base; strings = h.strings; units = units }))))
 
 -- ---- 22 to 28, then 29
 

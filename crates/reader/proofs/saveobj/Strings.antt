@@ -9,13 +9,15 @@ use native.Mathlib.Nat.{add-zero}
 use native.Mathlib.Numerals.{add-one}
 use native.Mathlib.Omega.{arith}
 use borrow.Author.Tests.{not-true, not-false}
-use lib.ListN.{length, take, set, length-append}
+use borrow.Rule.Slice.PartMut.{put_mid, mid_of}
+use lib.ListN.{length, take, drop, set, length-drop, length-append}
+use lib.Seq.{length-take-le}
 use Rattle.text.specs.Buffer.{put, Puts}
 use Rattle.text.specs.Result.{ok, error, map_result}
 use Rattle.text.specs.Unicode.{is_high_surrogate, is_low_surrogate, is_surrogate, utf8}
 use Rattle.text.specs.Utf16.{pair_value, scalar, text_of, the_text}
 use Rattle.text.specs.Stages.Utf16.{unit_step_at}
-use Rattle.text.proofs.BufferLaws.{SoFar, Splits, fits_next, goes_on, fits_from, begins_from, ends_from}
+use Rattle.text.proofs.BufferLaws.{SoFar, Splits, part_put, fits_next, goes_on, fits_from, begins_from, ends_from}
 use Rattle.text.proofs.ByteLaws.{stores, size_1, size_2, size_3, size_4}
 use Rattle.text.proofs.utf16.Decode as decoding
 use Rattle.text.proofs.ResultLaws.{Checks, checks_start, checks_turn, checks_stop, checks_last}
@@ -293,11 +295,14 @@ module _ (payload : List ℕ) (base n : ℕ) (t₀ s₀ : List ℕ) (at₀ : Pos
     spans_next : Splits (spans_from next.byte (left payload base n i)) (next.byte ∷ length string ∷ []) (spans_from (next.byte + length string) (left payload base n (i + 1)))
     spans_next = record { is = rw (left_next payload base n h, spans_cons, string_is) }
 
-    pub write_fits : UnitsFit payload (base + n) unit count next.byte (length t)
+    text_room_lem : next.byte + length string ≤ length t
+    text_room_lem = fits_next (fits_from t₀ (joined all) at₀.byte f.text) text_next m.text
+
+    pub write_fits : UnitsFit payload (base + n) unit count (length (mid_of next.byte (length t - next.byte) t))
     write_fits = record {
       inside = units_inside payload base n f.checked m.at h c;
       is_text_lem = rw (units_are payload base n f.checked m.at h c) (f.paired i h);
-      fits = fits_next (fits_from t₀ (joined all) at₀.byte f.text) text_next m.text;
+      fits = omega (arith, text_room_lem, length-drop next.byte t, length-take-le (length t - next.byte) (drop next.byte t) (omega (arith, length-drop next.byte t)));
     }
 
     pub write_span : 2 * next.string + 2 ≤ length s
@@ -306,23 +311,26 @@ module _ (payload : List ℕ) (base n : ℕ) (t₀ s₀ : List ℕ) (at₀ : Pos
     pub write_unit : unit + count < 2 ^ 64
     write_unit = let u = write_fits.inside in omega arith
 
-    pub write_turn : {t' : List ℕ} {end : ℕ} → Puts t next.byte string end t'
-        → Writing payload base n t₀ s₀ at₀ t' (set (set s (2 * next.string) next.byte) (2 * next.string + 1) (end - next.byte)) (record { byte = end; string = next.string + 1 }) (unit + count) (i + 1)
-    write_turn {t'} {end} p =
-        let l : end - next.byte ≡ length string = omega (arith, p.end) in
-        let k : 2 * next.string + 1 ≡ suc (2 * next.string) = omega arith in
-        let s' : List ℕ = set (set s (2 * next.string) next.byte) (2 * next.string + 1) (end - next.byte) in
-        let e : s' ≡ put s (2 * next.string) (next.byte ∷ length string ∷ []) =
-        rw (l, k) (stores (next.byte ∷ length string ∷ []) s (2 * next.string) write_span) in
-        let q = goes_on (fits_from s₀ (spans_from at₀.byte all) (2 * at₀.string) span_room_lem) spans_next m.spans s' (2 * (next.string + 1)) e (omega arith) in
-        record {
-          at = omega (arith, m.at, units_next payload base i);
-          bound = omega arith;
-          string = omega (arith, m.string);
-          text = goes_on (fits_from t₀ (joined all) at₀.byte f.text) text_next m.text t' end p.buffer p.end;
-          spans =
-              subst (λ (b : ℕ). SoFar (take (2 * at₀.string) s₀ ++ spans_from at₀.byte all) (spans_from b (left payload base n (i + 1))) s₀ s' (2 * (next.string + 1))) (sym p.end) q;
-        }
+    module _ {t' : List ℕ} {z : ℕ} (p : Puts (mid_of next.byte (length t - next.byte) t) 0 string z t') where
+      pub write_end : next.byte + z ≤ length t
+      write_end = omega (arith, text_room_lem, p.end)
+
+      pub write_turn : Writing payload base n t₀ s₀ at₀ (put_mid next.byte (length t - next.byte) t t') (set (set s (2 * next.string) next.byte) (2 * next.string + 1) z) (record { byte = next.byte + z; string = next.string + 1 }) (unit + count) (i + 1)
+      write_turn =
+          let l : z ≡ length string = omega (arith, p.end) in
+          let k : 2 * next.string + 1 ≡ suc (2 * next.string) = omega arith in
+          let s' : List ℕ = set (set s (2 * next.string) next.byte) (2 * next.string + 1) z in
+          let e : s' ≡ put s (2 * next.string) (next.byte ∷ length string ∷ []) =
+          rw (l, k) (stores (next.byte ∷ length string ∷ []) s (2 * next.string) write_span) in
+          let q = goes_on (fits_from s₀ (spans_from at₀.byte all) (2 * at₀.string) span_room_lem) spans_next m.spans s' (2 * (next.string + 1)) e (omega arith) in
+          let b : next.byte + z ≡ next.byte + length string = ap (λ (y : ℕ). next.byte + y) l in
+          record {
+            at = omega (arith, m.at, units_next payload base i);
+            bound = omega arith;
+            string = omega (arith, m.string);
+            text = goes_on (fits_from t₀ (joined all) at₀.byte f.text) text_next m.text _ _ (part_put t string next.byte text_room_lem p) b;
+            spans = subst (λ (b : ℕ). SoFar (take (2 * at₀.string) s₀ ++ spans_from at₀.byte all) (spans_from b (left payload base n (i + 1))) s₀ s' (2 * (next.string + 1))) (sym b) q;
+          }
 
   pub write_last : {t s : List ℕ} {next : Position} {unit i : ℕ} → Writing payload base n t₀ s₀ at₀ t s next unit i → n ≤ i → WritesAt (ok all) at₀ t₀ s₀ next t s
   unfolding flat_map

@@ -19,13 +19,13 @@ pub record ToNames (m : Metadata) (first end start : ℕ) : Type 0 where
   pub order : first ≤ end
   pub size : end ≤ first + 4096
   pub few : end ≤ m.w.names + 1
-  pub heap : PieceBegins m.blob.now m.w.offsets.o0 first start
+  pub heap : PieceBegins m.blob.now (get_or m.w.offsets 0 0) first start
 
 -- what f gives for name x, whether that is not empty, and where the next name begins
 pub record Looks {A : Type 0} (m : Metadata) (empty : A) (f : List ℕ → A) (x : ℕ) (l : Looked A) : Type 0 where
   pub is : l.value ≡ f (own_bytes m.blob.now m.w x)
   pub none : l.any ≡ false → l.value ≡ empty
-  pub heap : PieceBegins m.blob.now m.w.offsets.o0 (x + 1) l.next
+  pub heap : PieceBegins m.blob.now (get_or m.w.offsets 0 0) (x + 1) l.next
 
 -- a table of what f gives for each name first up to end, whether one of these is not empty, and where name end begins
 pub record Tabulates {A : Type 0} (m : Metadata) (empty : A) (f : List ℕ → A) (first end : ℕ) (table : List A) (any : Bool) (next : ℕ) : Type 0 where
@@ -33,7 +33,7 @@ pub record Tabulates {A : Type 0} (m : Metadata) (empty : A) (f : List ℕ → A
   pub size : length table ≡ 4096
   pub is : (i : ℕ) → first ≤ i → i < end → get_or table (i - first) empty ≡ f (own_bytes m.blob.now m.w i)
   pub none : any ≡ false → (i : ℕ) → first ≤ i → i < end → f (own_bytes m.blob.now m.w i) ≡ empty
-  pub heap : PieceBegins m.blob.now m.w.offsets.o0 end next
+  pub heap : PieceBegins m.blob.now (get_or m.w.offsets 0 0) end next
 
 -- the same for a whole chunk
 pub record FillsTable {A : Type 0} (m : Metadata) (empty : A) (f : List ℕ → A) (first end : ℕ) (table : List A) (any : Bool) (next : ℕ) : Type 0 where

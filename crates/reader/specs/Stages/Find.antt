@@ -1,13 +1,11 @@
 -- What the stages of finding a property promise each other.
 -- Assumes nothing.
-use Rattle.std.specs.Prelude.{ℕ, suc, ◌+◌, ◌≤◌, ◌<◌, ◌≡◌, Bool, cond, ◌&&◌, List, [], ◌∷◌}
+use Rattle.std.specs.Prelude.{ℕ, suc, Bool, cond, ◌&&◌, List, [], ◌∷◌}
 use Rattle.text.specs.Buffer.{same}
 use Rattle.reader.specs.Objects.{triples_from}
 use Rattle.reader.specs.Queries.{own_bytes}
 use Rattle.reader.specs.Stages.Chunks.{is_in}
-use Rattle.reader.specs.Stages.Names.{PieceBegins}
 use Rattle.reader.specs.declared.file_wrapper.Metadata.{Metadata}
-use Rattle.reader.specs.declared.find.Walk.{Walk}
 use Rattle.reader.specs.declared.records.Triple.{Triple}
 use Rattle.reader.specs.declared.triples.Triples.{Triples}
 
@@ -23,10 +21,3 @@ first_of p ts n = first_index (λ (t : Triple). p t.name_idx) (triples_from ts.m
 -- a name index from first up to end whose name is stored as wanted
 unfoldable pub stored_in : Metadata → List ℕ → ℕ → ℕ → ℕ → Bool
 stored_in m wanted first end x = is_in first end x && same (own_bytes m.blob.now m.w x) wanted
-
--- more names have been looked at, and best has moved to the first triple before it that has a wanted one of them
-pub record ScansNames (ts : Triples) (wanted : List ℕ) (from to : Walk) : Type 0 where
-  pub more : from.name < to.name
-  pub few : to.name ≤ ts.metadata.w.names + 1
-  pub heap : PieceBegins ts.metadata.blob.now ts.metadata.w.offsets.o0 to.name to.start
-  pub is : to.best ≡ first_of (stored_in ts.metadata wanted from.name to.name) ts from.best

@@ -1,6 +1,6 @@
 -- What the stages of the object listing promise each other.
 -- Assumes nothing.
-use Rattle.std.specs.Prelude.{ℕ, ◌+◌, ◌/◌, ◌≤◌, ◌<◌, ◌*◌, ◌-◌, ◌≡◌, Bool, List, get_or, length, IfOk, Result as Reply}
+use Rattle.std.specs.Prelude.{ℕ, ◌+◌, ◌/◌, ◌≤◌, ◌<◌, ◌*◌, ◌-◌, ◌≡◌, Bool, List, [], ◌∷◌, get_or, slice_set, length, IfOk, Result as Reply}
 use Rattle.text.specs.Replies.{outcome}
 use Rattle.text.specs.Result.{Result, ok, ◌>>◌, values_of, map_result}
 use Rattle.text.specs.declared.error.MatError.{MatError}
@@ -11,7 +11,6 @@ use Rattle.reader.specs.Stages.Objects.{number_of}
 use Rattle.reader.specs.declared.file_wrapper.FileWrapper.{FileWrapper}
 use Rattle.reader.specs.declared.file_wrapper.Metadata.{Metadata}
 use Rattle.reader.specs.declared.listing.Cursor.{Cursor}
-use Rattle.reader.specs.declared.listing.Cursors.{Cursors}
 use Rattle.reader.specs.declared.listing.Listing.{Listing}
 use Rattle.reader.specs.declared.plan.Plan.{Plan}
 use Rattle.reader.specs.declared.listing.Step.{Step}
@@ -75,42 +74,36 @@ abbrev pub cursor_from : List ℕ → Cursor → ℕ → Cursor
 cursor_from b c k = record { block = k; at = block_at 12 b c.at (k - c.block) }
 
 -- the cursor of a region
-abbrev pub cursor_of : Cursors → Region → Cursor
-cursor_of cs Saved = cs.saveobj
-cursor_of cs Normal = cs.normalobj
+abbrev pub cursor_of : List Cursor → Region → Cursor
+cursor_of cs g = get_or cs (number_of g) (record { block = 0; at = 0 })
 
 -- the cursors with that of a region moved to c
-abbrev pub with_cursor : Cursors → Region → Cursor → Cursors
-with_cursor cs Saved c = record { saveobj = c; normalobj = cs.normalobj }
-with_cursor cs Normal c = record { saveobj = cs.saveobj; normalobj = c }
+abbrev pub with_cursor : List Cursor → Region → Cursor → List Cursor
+with_cursor cs g c = slice_set cs (number_of g) c
 
 -- before any block is looked for, each cursor stands at block 0 of its region
-abbrev pub first_cursors : FileWrapper → Cursors
-first_cursors w = record {
-  saveobj = record { block = 0; at = w.offsets.o1 };
-  normalobj = record { block = 0; at = w.offsets.o3 };
-}
+abbrev pub first_cursors : FileWrapper → List Cursor
+first_cursors w = record { block = 0; at = get_or w.offsets 1 0 } ∷ record { block = 0; at = get_or w.offsets 3 0 } ∷ []
 
 -- each cursor stands at the block of its region that it names
-pub record AreCursors (m : Metadata) (cs : Cursors) : Type 0 where
-  pub saveobj : IsCursor m.blob.now m.w.offsets.o1 cs.saveobj
-  pub normalobj : IsCursor m.blob.now m.w.offsets.o3 cs.normalobj
+pub record AreCursors (m : Metadata) (cs : List Cursor) : Type 0 where
+  pub size : length cs ≡ 2
+  pub are : (g : Region) → IsCursor m.blob.now (region_start m.w (number_of g)) (cursor_of cs g)
 
 -- the entry before a block of its region lies in the index
 abbrev pub EntryInside : Plan → BlockId → Type 0
 EntryInside p k = first_entry p k.region + k.id / p.stride < 8192
 
 -- a cursor not past the block, that of the region or of its entry: in whatever blob both are right, it is too
-pub record Nearest (index : List ℕ) (p : Plan) (cs : Cursors) (k : BlockId) (c : Cursor) : Type 0 where
+pub record Nearest (index : List ℕ) (p : Plan) (cs : List Cursor) (k : BlockId) (c : Cursor) : Type 0 where
   pub behind : c.block ≤ k.id
   pub is : (b : List ℕ) (start : ℕ) → IsCursor b start (cursor_of cs k.region)
       → index_entry index p k.region (k.id / p.stride) ≡ block_at 12 b start (k.id / p.stride * p.stride) → IsCursor b start c
 
--- the blob's region has this block, and index and cursors are the blob's
-pub record ToBlock (index : List ℕ) (p : Plan) (cs : Cursors) (k : BlockId) : Type 0 where
-  pub indexes : Indexes p index
-  pub cursors : AreCursors p.metadata cs
-  pub below : k.id < region_blocks p.metadata.w (number_of k.region)
+-- the blob's region has this block, and the cursors are the blob's
+pub record ToBlock (m : Metadata) (cs : List Cursor) (k : BlockId) : Type 0 where
+  pub cursors : AreCursors m cs
+  pub below : k.id < region_blocks m.w (number_of k.region)
 
 -- ---- the listing
 
@@ -129,12 +122,11 @@ pub record ListingFor (b : List ℕ) (room : ℕ) (x : Reply Listing MatError) :
   pub reply : map_result (λ (l : Listing). l.count) (outcome x) ≡ map_result length (into_output (object_rows b) room)
   pub is : IfOk x (IsListing b)
 
--- object i is one of the blob's, and index and cursors are the blob's
-pub record ToNext (index : List ℕ) (p : Plan) (cs : Cursors) (i : ℕ) : Type 0 where
-  pub listable : Listable p.metadata
-  pub indexes : Indexes p index
-  pub cursors : AreCursors p.metadata cs
-  pub below : i + 1 < p.metadata.w.records
+-- object i is one of the blob's, and the cursors are the blob's
+pub record ToNext (m : Metadata) (cs : List Cursor) (i : ℕ) : Type 0 where
+  pub listable : Listable m
+  pub cursors : AreCursors m cs
+  pub below : i + 1 < m.w.records
 
 -- object i, and cursors that are the blob's
 pub record NextObject (m : Metadata) (i : ℕ) (s : Step) : Type 0 where

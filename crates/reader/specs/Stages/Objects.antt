@@ -1,6 +1,6 @@
 -- What the stages of reading one object promise each other.
 -- Assumes nothing.
-use Rattle.std.specs.Prelude.{ℕ, ◌+◌, ◌*◌, ◌≤◌, ◌≡◌, cond, eqb, List, length, IfOk, Result as Reply}
+use Rattle.std.specs.Prelude.{ℕ, ◌+◌, ◌*◌, ◌≤◌, ◌<◌, ◌≡◌, cond, eqb, List, length, IfOk, Result as Reply}
 use Rattle.text.specs.Replies.{outcome}
 use Rattle.text.specs.Result.{map_result}
 use Rattle.text.specs.declared.error.MatError.{MatError}
@@ -12,6 +12,10 @@ use Rattle.reader.specs.declared.objects.ObjectRow.{ObjectRow}
 use Rattle.reader.specs.declared.objects.Region.{Region}
 use Rattle.reader.specs.declared.objects.Region.TheVariants.{Saved, Normal}
 use Rattle.reader.specs.declared.records.ObjectRecord.{ObjectRecord}
+
+-- an opened blob has a record of this id
+pub record HasObject (w : FileWrapper) (id : ℕ) : Type 0 where
+  pub below : id < w.records
 
 -- the number of a region: "0 saved, 1 normal"
 abbrev pub number_of : Region → ℕ

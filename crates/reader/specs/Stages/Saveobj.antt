@@ -7,10 +7,21 @@ use Rattle.text.specs.Result.{Result, ok, ◌>>◌, ◌>>=◌, values_of}
 use Rattle.text.specs.Utf16.{text_of, the_text}
 use Rattle.writer.specs.Spans.{joined, spans_from}
 use Rattle.reader.specs.Saveobj.{units_before, check_header, check_unit_count, stored_units, stored_strings}
-use Rattle.reader.specs.declared.saveobj.Layout.{Layout}
 use Rattle.reader.specs.declared.saveobj.Position.{Position}
 
 -- ---- stages
+
+-- the index of the first length, the number of strings and that of their code units
+pub record Layout : Type 0 where
+  pub base : ℕ
+  pub strings : ℕ
+  pub units : ℕ
+
+-- 27 and 28, and the code units of n strings
+unfoldable pub checked_units : List ℕ → ℕ → ℕ → Result ℕ
+checked_units payload base n = do
+  check_unit_count payload base n
+  ok (units_before payload base n)
 
 -- 22 to 28
 unfoldable pub check_layout : List ℕ → Result Layout
@@ -18,6 +29,10 @@ check_layout payload = do
   header ← check_header payload
   check_unit_count payload header.base header.strings
   ok (record { base = header.base; strings = header.strings; units = units_before payload header.base header.strings })
+
+-- the payload has the lengths of n strings from word base on
+pub record LengthsInside (payload : List ℕ) (base n : ℕ) : Type 0 where
+  pub there : base + n ≤ length payload
 
 -- 22 to 28 hold of a payload of n strings whose lengths begin at word base
 pub record UnitsChecked (payload : List ℕ) (base n : ℕ) : Type 0 where

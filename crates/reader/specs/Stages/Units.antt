@@ -14,27 +14,27 @@ pub record UnitsInside (words : List ℕ) (first k n : ℕ) : Type 0 where
   pub there : k + n ≤ 4 * (length words - first)
   pub most : length words ≤ 2097152
 
--- they have a text, and from index at on there is room for it
-pub record UnitsFit (words : List ℕ) (first k n at room : ℕ) : Type 0 where
+-- they have a text, and there is room for it
+pub record UnitsFit (words : List ℕ) (first k n room : ℕ) : Type 0 where
   pub inside : UnitsInside words first k n
   pub is_text_lem : text_of (units_in words first k n) ≡ Some (the_text (units_in words first k n))
-  pub fits : at + length (the_text (units_in words first k n)) ≤ room
+  pub fits : length (the_text (units_in words first k n)) ≤ room
 
--- a unit whose text has two bytes, and from index at on there is room for them
-pub record TwoFit (unit at room : ℕ) : Type 0 where
+-- a unit whose text has two bytes, and there is room for them
+pub record TwoFit (unit room : ℕ) : Type 0 where
   pub least : 0x80 ≤ unit
   pub most : unit < 0x800
-  pub fits : at + 2 ≤ room
+  pub fits : 2 ≤ room
 
 -- the same for three
-pub record ThreeFit (unit at room : ℕ) : Type 0 where
+pub record ThreeFit (unit room : ℕ) : Type 0 where
   pub least : 0x800 ≤ unit
-  pub fits : at + 3 ≤ room
+  pub fits : 3 ≤ room
 
--- a surrogate pair, and from index at on there is room for its four bytes
-pub record PairFits (high low at room : ℕ) : Type 0 where
+-- a surrogate pair, and there is room for its four bytes
+pub record PairFits (high low room : ℕ) : Type 0 where
   pub high_from : 0xD800 ≤ high
   pub high_to : high ≤ 0xDBFF
   pub low_from : 0xDC00 ≤ low
   pub low_to : low ≤ 0xDFFF
-  pub fits : at + 4 ≤ room
+  pub fits : 4 ≤ room

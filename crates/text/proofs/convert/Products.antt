@@ -1,14 +1,14 @@
 -- Products below 2^64: one by a division, and those of dimensions by a loop.
 -- Assumes nothing.
-use Prim.Native.Nat.{ℕ, ◌+◌, ◌-◌, ◌*◌, ◌^◌, ◌≤◌, ◌<◌}
+use Prim.Native.Nat.{ℕ, ◌+◌, ◌*◌, ◌^◌, ◌≤◌, ◌<◌}
 use mathlib.Core.Path.{◌≡◌, refl, sym, ap, ◌∙◌}
 use Rattle.std.proofs.lemmas.List.{length-map, get_or-map}
-use mathlib.Core.List.{List, [], ◌∷◌, map}
+use mathlib.Core.List.{List, map}
 use native.Mathlib.Numerals.{add-one}
 use native.Mathlib.Omega.{arith}
 use borrow.Author.Tests.{lt-ltb, le-ltb}
 use Rattle.std.specs.Prelude.{Ok, Err, Result as Reply}
-use lib.ListN.{length, get_or, take, drop}
+use lib.ListN.{length, get_or, drop}
 use lib.Seq.{drop-cons, drop-length}
 use Rattle.text.specs.Product.{product_from, product_of, check_product}
 use Rattle.text.specs.Result.{Result, ok, ◌>>=◌}
@@ -54,17 +54,6 @@ module _ {D : Type 0} (size : D → ℕ) (ds : List D) where
         sym (rw (s, drop-length (map size ds)) at m.rest)
 
 -- ---- what callers know of a product
-
--- the dimensions of a scalar
-pub product_scalar : product_of (1 ∷ 1 ∷ []) ≡ Ok 1
-unfolding product_of product_from
-product_scalar = refl
-
--- the n dimensions from index a on, which the code cuts out by their end
-pub product_is : {x y : Reply ℕ ℕ} (a n : ℕ) (w : List ℕ) → x ≡ product_of (take (a + n - a) (drop a w)) → x ≡ y → product_of (take n (drop a w)) ≡ y
-product_is a n w e g =
-    let k : a + n - a ≡ n = omega arith in
-    sym (rw k at e) ∙ g
 
 pub product_passed : (number : ℕ) (x : Reply ℕ ℕ) {A : Type 0} (f : ℕ → Result A) {b : A} → (check_product number x >>= f) ≡ ok b
     → (p : ℕ) × ((x ≡ Ok p) × (f p ≡ ok b))

@@ -105,6 +105,3 @@ module _ (t : List ℕ) where
 -- the place alone
 pub valid_units : (t : List ℕ) {x : Reply ℕ Utf8Error} {n : ℕ} → CountsUnits t x → x ≡ Ok n → None ≡ first_ill_formed (parts_from t 0)
 valid_units t c e = sym (ap error_place e) ∙ c.place
-
-pub valid_place : (t : List ℕ) {x : Reply ℕ Utf8Error} {f : Utf8Error} → CountsUnits t x → x ≡ Err f → Some f.valid_up_to ≡ first_ill_formed (parts_from t 0)
-valid_place t c e = sym (ap error_place e) ∙ c.place

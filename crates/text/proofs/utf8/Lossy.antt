@@ -2,14 +2,15 @@
 -- Assumes nothing.
 use mathlib.Core.Path.{◌≡◌, refl, ◌∙◌, sym, ap, ap₂}
 use mathlib.Core.Bool.{Bool, true, false, cond, not}
-use mathlib.Core.List.{List, [], ◌∷◌, ◌++◌, flat_map}
+use mathlib.Core.List.{List, [], ◌∷◌, flat_map}
 use Rattle.std.specs.Prelude.{Option, Some, None, Ok, Err, Result as Reply}
 use Rattle.std.specs.Option.{option_map}
 use Prim.Native.Nat.{ℕ, ◌+◌, ◌-◌, ◌*◌, ◌/◌, ◌^◌, ◌≤◌, ◌<◌, min}
 use native.Mathlib.Omega.{arith}
-use borrow.Author.Tests.{lt-ltb, le-ltb, lt-leb, le-leb, leb-true, leb-false, ltb-true, ltb-false, not-true, not-false}
+use borrow.Author.Tests.{lt-ltb, lt-leb, le-leb, leb-true, leb-false, ltb-true, ltb-false, not-true, not-false}
+use borrow.Rule.Slice.PartMut.{mid_of, put_mid}
 use lib.Dec.{leb, ltb}
-use lib.ListN.{length, get_or, take, length-append}
+use lib.ListN.{length, get_or, length-append}
 use Rattle.text.specs.declared.utf8.Step.{Step}
 use Rattle.text.specs.declared.utf8.Step.TheVariants.{Scalar, IllFormed, End}
 use Rattle.text.specs.declared.utf8.LossySize.{LossySize}
@@ -20,12 +21,12 @@ use Rattle.text.specs.Replies.{error_place, CountsUnits, lossy_size, lossy_lengt
 use Rattle.text.specs.Result.{ok, error}
 use Rattle.text.specs.Unicode.{is_scalar, utf8, utf8s}
 use Rattle.text.specs.Utf8.{Part, sequence, ill_formed, step_at, parts_from, scalars_of, first_ill_formed, repaired, replaced_in, scalars8, lossy}
-use Rattle.text.proofs.BufferLaws.{SoFar, Splits, put_front, fits_next, goes_on, placed_not, placed_whole, places_front, fits_from, begins_from, ends_from}
+use Rattle.text.proofs.BufferLaws.{SoFar, Splits, put_front, part_put, fits_next, goes_on, begins, ends, placed_not, placed_whole, places_front}
 use Rattle.text.proofs.utf8.Count.{valid_units}
 use Rattle.text.proofs.LeadLaws.{ascii}
 use Rattle.text.proofs.PartLaws.{StepsTo, step_reads, step_breaks, step_end, parts_end, parts_scalar, parts_ill_formed, parts_rule}
 use Rattle.text.proofs.ScalarLaws.{scalar_is, is_scalar_lem, utf8s_cons}
-use Rattle.text.proofs.TestLaws.{equal_or}
+use Rattle.text.proofs.TestLaws.{equal_or, either}
 use Rattle.text.proofs.Utf8Laws.{step_took, took_size, not_some, spelled, lossy_le}
 
 -- what a step writes: the scalar value w, with k replaced parts
@@ -127,23 +128,16 @@ module _ (s : List ℕ) where
       unfolding repaired flat_map
       bytes_are = omega (arith, rw no_parts at m.sum)
 
-      pub measure_over : (18446744073709551615 - (i - broken)) / 3 < replaced → None ≡ lossy_length s
+      pub measure_over : ((i - broken) + 3 * replaced < 2 ^ 64 → ⊥) → None ≡ lossy_length s
       unfolding lossy_length
-      measure_over l = simp (le-ltb (length (lossy s)) (2 ^ 64) (omega (arith, bytes_are, m.bound)))
+      measure_over n =
+          either (ltb (length (lossy s)) (2 ^ 64)) (λ e. absurd (n (omega (arith, bytes_are, ltb-true (length (lossy s)) (2 ^ 64) e)))) (λ e. simp e)
 
-      pub measure_last : length s < 2 ^ 64 → replaced ≤ (18446744073709551615 - (i - broken)) / 3 → Some (size ((i - broken) + 3 * replaced) replaced) ≡ lossy_length s
+      pub measure_last : {n : ℕ} → n ≡ (i - broken) + 3 * replaced → n < 2 ^ 64 → Some (size n replaced) ≡ lossy_length s
       unfolding lossy_length replaced_in
-      measure_last f l =
+      measure_last e l =
           let r : replaced ≡ replaced_in (parts_from s 0) = omega (arith, rw no_parts at m.count) in
-          simp (lt-ltb (length (lossy s)) (2 ^ 64) (omega (arith, bytes_are, m.bound))) (ap₂ (λ (b n : ℕ). Some (size b n)) bytes_are r)
-
-    -- the same where a step finds nothing left
-    module _ {x : Step} (e : x ≡ step_at s i) (g : x ≡ End) where
-      pub end_over : (18446744073709551615 - (i - broken)) / 3 < replaced → None ≡ lossy_length s
-      end_over l = measure_over (step_end s i (sym e ∙ g)) l
-
-      pub end_last : length s < 2 ^ 64 → replaced ≤ (18446744073709551615 - (i - broken)) / 3 → Some (size ((i - broken) + 3 * replaced) replaced) ≡ lossy_length s
-      end_last f l = measure_last (step_end s i (sym e ∙ g)) f l
+          simp (lt-ltb (length (lossy s)) (2 ^ 64) (omega (arith, bytes_are))) (ap₂ (λ (b n : ℕ). Some (size b n)) (e ∙ bytes_are) r)
 
   -- all before the first ill-formed part is kept
   pub measure_from : {at : ℕ} → first_ill_formed (parts_from s 0) ≡ Some at → Measuring s 0 0 at
@@ -155,22 +149,22 @@ module _ (s : List ℕ) where
 
 -- ---- writing
 
--- the repaired text of s is written into d₀ from index at on, up to position i and index o
-pub record Writing (s d₀ : List ℕ) (at : ℕ) (d : List ℕ) (i o : ℕ) : Type 0 where
-  pub room : at + length (lossy s) ≤ length d₀
-  pub so_far : SoFar (take at d₀ ++ lossy s) (utf8s (repaired (parts_from s i))) d₀ d o
+-- the repaired text of s is written to the start of d₀, up to position i and index o
+pub record Writing (s d₀ d : List ℕ) (i o : ℕ) : Type 0 where
+  pub room : length (lossy s) ≤ length d₀
+  pub so_far : SoFar (lossy s) (utf8s (repaired (parts_from s i))) d₀ d o
 
 module _ (s : List ℕ) where
-  pub write_start : (d₀ : List ℕ) (at : ℕ) → at + length (lossy s) ≤ length d₀ → Writing s d₀ at d₀ 0 at
-  write_start d₀ at h = record { room = h; so_far = begins_from d₀ (lossy s) at h }
+  pub write_start : (d : List ℕ) → length (lossy s) ≤ length d → Writing s d d 0 0
+  write_start d h = record { room = h; so_far = begins (lossy s) d }
 
-  module _ {d₀ d : List ℕ} {at i o : ℕ} (t : Writing s d₀ at d i o) where
+  module _ {d₀ d : List ℕ} {i o : ℕ} (t : Writing s d₀ d i o) where
     module _ {next w k : ℕ} (x : Writes s i next w k) where
       next_room : o + length (utf8 w) ≤ length d
-      next_room = fits_next (fits_from d₀ (lossy s) at t.room) (splits x) t.so_far
+      next_room = fits_next t.room (splits x) t.so_far
 
-      write_on : {e : ℕ} {d' : List ℕ} → e ≡ o + length (utf8 w) → d' ≡ put d o (utf8 w) → Writing s d₀ at d' next e
-      write_on {e} {d'} p q = record { room = t.room; so_far = goes_on (fits_from d₀ (lossy s) at t.room) (splits x) t.so_far d' e q p }
+      write_on : {e : ℕ} {d' : List ℕ} → e ≡ o + length (utf8 w) → d' ≡ put d o (utf8 w) → Writing s d₀ d' next e
+      write_on {e} {d'} p q = record { room = t.room; so_far = goes_on t.room (splits x) t.so_far d' e q p }
 
     module _ {x : Step} (e : x ≡ step_at s i) where
       module _ {v next : ℕ} (g : x ≡ Scalar v next) where
@@ -180,19 +174,21 @@ module _ (s : List ℕ) where
         pub scalar_room : o + length (utf8 v) ≤ length d
         scalar_room = next_room (writes_scalar s i e g)
 
-        pub write_scalar : {r : ℕ} {d' : List ℕ} → r ≡ o + length (utf8 v) → d' ≡ put d o (utf8 v) → Writing s d₀ at d' next r
+        pub write_scalar : {r : ℕ} {d' : List ℕ} → r ≡ o + length (utf8 v) → d' ≡ put d o (utf8 v) → Writing s d₀ d' next r
         write_scalar p q = write_on (writes_scalar s i e g) p q
 
       module _ {next : ℕ} (g : x ≡ IllFormed next) where
         pub replacement_room : o + length (utf8 0xFFFD) ≤ length d
         replacement_room = next_room (writes_replacement s i e g)
 
-        pub write_replacement : {r : ℕ} {d' : List ℕ} → r ≡ o + length (utf8 0xFFFD) → d' ≡ put d o (utf8 0xFFFD) → Writing s d₀ at d' next r
+        pub write_replacement : {r : ℕ} {d' : List ℕ} → r ≡ o + length (utf8 0xFFFD) → d' ≡ put d o (utf8 0xFFFD) → Writing s d₀ d' next r
         write_replacement p q = write_on (writes_replacement s i e g) p q
 
-      pub write_last : x ≡ End → Puts d₀ at (lossy s) o d
+      pub write_last : x ≡ End → Puts d₀ 0 (lossy s) o d
       unfolding repaired flat_map
-      write_last g = ends_from d₀ (lossy s) at t.room (rw (nothing_left s i e g) at t.so_far)
+      write_last g =
+          let f : SoFar (lossy s) [] d₀ d o = rw (nothing_left s i e g) at t.so_far in
+          record { end = omega (arith, f.count); buffer = ends (lossy s) d₀ d o f ∙ sym (put_front d₀ (lossy s)) }
 
 -- no more parts are replaced than there are bytes
 replaced_from : (s : List ℕ) → (i : ℕ) → replaced_in (parts_from s i) ≤ length s - i
@@ -300,11 +296,13 @@ module _ (s d : List ℕ) (at : ℕ) {r : Bool} (h : at ≤ length d) (is : r �
   lossy_kept n = placed_not d at (lossy s) (omega (arith, leb-false (length (lossy s)) (length d - at) (sym is ∙ not-true r n)))
 
   module _ (y : not r ≡ false) where
-    pub lossy_inside : at + length (lossy s) ≤ length d
+    lossy_inside : at + length (lossy s) ≤ length d
     lossy_inside = omega (arith, leb-true (length (lossy s)) (length d - at) (sym is ∙ not-false r y))
 
-    pub lossy_placed : {e : ℕ} {d' : List ℕ} → Puts d at (lossy s) e d' → Places d at (lossy s) e d'
-    lossy_placed p = placed_whole d at (lossy s) lossy_inside p
+    pub lossy_placed : {n : ℕ} {part' : List ℕ} → Puts (mid_of at (length d - at) d) 0 (lossy s) n part'
+        → Places d at (lossy s) (at + n) (put_mid at (length d - at) d part')
+    lossy_placed p =
+        placed_whole d at (lossy s) lossy_inside (record { end = omega (arith, p.end); buffer = part_put d (lossy s) at lossy_inside p })
 
 -- ---- the returns of `write_lossy`
 
@@ -321,7 +319,7 @@ module _ (s out : List ℕ) {x : Option LossySize} (is : x ≡ lossy_length s) w
     bytes_is : z.bytes ≡ length (lossy s)
     bytes_is = ap (λ (k : LossySize). k.bytes) (length_is s is e).0
 
-    pub lossy_room : 0 + length (lossy s) ≤ length out
+    pub lossy_room : length (lossy s) ≤ length out
     lossy_room = omega (arith, bytes_is)
 
     lossy_put : {out' : List ℕ} → out' ≡ put out 0 (lossy s) → WritesLossy s out (Ok z) out'

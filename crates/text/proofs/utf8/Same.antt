@@ -45,13 +45,14 @@ module _ (t : List ℕ) (o w : ℕ) {x : Step} (e : x ≡ step_at t o) where
   unfolding step_has
   has_by_value g = rw (sym e ∙ g)
 
-  pub has_not_ill_formed : {next : ℕ} → x ≡ IllFormed next → false ≡ step_has (step_at t o) w
+  pub has_not : ((v next : ℕ) → x ≡ Scalar v next → ⊥) → false ≡ step_has (step_at t o) w
   unfolding step_has
-  has_not_ill_formed g = rw (sym e ∙ g)
-
-  pub has_not_end : x ≡ End → false ≡ step_has (step_at t o) w
-  unfolding step_has
-  has_not_end g = rw (sym e ∙ g)
+  has_not n = by x n ∙ ap (λ y. step_has y w) e
+    where
+      by : (y : Step) → ((v next : ℕ) → y ≡ Scalar v next → ⊥) → false ≡ step_has y w
+      by (Scalar v next) m = absurd (m v next refl)
+      by (IllFormed next) m = refl
+      by End m = refl
 
 -- the bytes of w stand at o
 record HasScalarAt (t : List ℕ) (o w : ℕ) : Type 0 where

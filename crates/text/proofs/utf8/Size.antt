@@ -9,9 +9,8 @@ use native.Mathlib.Omega.{arith}
 use borrow.Author.Tests.{eqb-true, eqb-false, not-true, not-false}
 use lib.Dec.{eqb}
 use lib.ListN.{get_or}
-use Rattle.text.specs.declared.utf8.Range.{Range}
 use Rattle.text.specs.Stages.Utf8.{has_second, whole_length}
-use Rattle.text.specs.Utf8.{sequence_length, second_range, has_in, matched, whole_at}
+use Rattle.text.specs.Utf8.{Range, sequence_length, second_range, has_in, matched, whole_at}
 use Rattle.text.proofs.LeadLaws.{not_one}
 use Rattle.text.proofs.StepLaws.{length_le}
 

@@ -1,10 +1,16 @@
 -- What the private stages of reading UTF-8 promise each other.
 -- Assumes nothing.
-use Rattle.std.specs.Prelude.{ℕ, ◌+◌, Bool, true, false, cond, List, eqb, get_or}
+use Rattle.std.specs.Prelude.{ℕ, ◌≡◌, ◌+◌, Bool, true, false, cond, List, eqb, get_or}
 use Rattle.std.specs.Prelude.{Option, Some, None}
-use Rattle.text.specs.Utf8.{second_range, has_in, matched, whole_at}
+use Rattle.std.specs.declared.ops.RangeInclusive.{RangeInclusive}
+use Rattle.std.specs.Range.{range_inclusive_start, range_inclusive_end}
+use Rattle.text.specs.Utf8.{Range, second_range, has_in, matched, whole_at}
 use Rattle.text.specs.declared.utf8.Step.{Step}
 use Rattle.text.specs.declared.utf8.Step.TheVariants.{Scalar, IllFormed, End}
+
+-- r goes from the low end of g to the high one
+abbrev pub IsRange : RangeInclusive ℕ → Range → Type 0
+IsRange r g = record { low = range_inclusive_start r; high = range_inclusive_end r } ≡ g
 
 -- a step found the scalar value v
 unfoldable pub step_has : Step → ℕ → Bool

@@ -1,7 +1,7 @@
 -- Comparing bytes with the metadata blob, part by part.
 -- Assumes nothing.
 use mathlib.Core.Path.{◌≡◌, refl, sym, ap, ap₂, ◌∙◌}
-use mathlib.Core.Bool.{Bool, true, false, ◌&&◌, and_assoc}
+use mathlib.Core.Bool.{Bool, true, false, ◌&&◌}
 use mathlib.Core.List.{List, [], ◌∷◌, ◌++◌, flat_map}
 use Prim.Native.Nat.{ℕ, zero, suc, max, ◌+◌, ◌-◌, ◌*◌, ◌^◌, ◌≤◌, ◌<◌}
 use native.Mathlib.Numerals.{add-one}
@@ -99,7 +99,7 @@ module _ (b ws : List ℕ) (at : ℕ) where
 -- ---- entries
 
 -- entries stand where each stands
-pub entries_stand : (b : List ℕ) (r : Region) (i n at : ℕ)
+entries_stand : (b : List ℕ) (r : Region) (i n at : ℕ)
     → stands_at b (at + entry_size r * i) (entries_from r i n) ≡ list_all (λ k. stands_at b (at + entry_size r * k) (u32s (entry r k))) (range_with_len i n)
 unfolding entries_from
 entries_stand b r i zero at = stands_none b (at + entry_size r * i)
@@ -158,12 +158,6 @@ module _ (n : ℕ) (b : List ℕ) (l : length b ≡ 144 + 48 * n) where
         stands_append b (entries_from Objects 0 n) (120 + 16 * n) (120 + 40 * n) (omega (arith, length_entries Objects 0 n)),
       )
 
-  -- the tests of the parts, one after another
-  pub parts_tested : {v₁ v₂ v₃ v₄ : Bool} → v₁ ≡ (stands_at b 0 (file_head n) && stands_at b 96 (entries_from SavedBlocks 0 n))
-      → v₂ ≡ (v₁ && stands_at b (96 + 16 * n) (u32s (replicate 6 0))) → v₃ ≡ (v₂ && stands_at b (120 + 16 * n) (entries_from Objects 0 n))
-      → v₄ ≡ (v₃ && stands_at b (120 + 40 * n) (replicate (24 + 8 * n) 0)) → v₄ ≡ same b (file_wrapper n)
-  parts_tested e f g h = h ∙ rw (g, f, e) (simp and_assoc (sym parts_stand))
-
   pub zeros_stand : {p : Bool} → p ≡ same (take (length b - (120 + 40 * n)) (drop (120 + 40 * n) b)) (replicate (length (take (length b - (120 + 40 * n)) (drop (120 + 40 * n) b))) 0)
       → p ≡ stands_at b (120 + 40 * n) (replicate (24 + 8 * n) 0)
   unfolding stands_at
@@ -172,24 +166,17 @@ module _ (n : ℕ) (b : List ℕ) (l : length b ≡ 144 + 48 * n) where
       let z : length (take (24 + 8 * n) (drop (120 + 40 * n) b)) ≡ 24 + 8 * n = omega (arith, length-take (24 + 8 * n) (drop (120 + 40 * n) b), length-drop (120 + 40 * n) b) in
       e ∙ rw (k, z, length-replicate)
 
--- a value of `&&`, by the test before it
-pub both_yes : {v p q s t : Bool} → p ≡ true → p ≡ s → v ≡ q → q ≡ t → v ≡ (s && t)
-both_yes a b e f = rw (sym b ∙ a) (e ∙ f)
-
-pub both_no : {v p s : Bool} (t : Bool) → p ≡ false → p ≡ s → v ≡ p → v ≡ (s && t)
-both_no t a b e = rw (sym b ∙ a) (e ∙ a)
-
 -- ---- whether bytes are the blob
+
+pub length_stands : (n : ℕ) (b : List ℕ) {s : ℕ} → s ≡ length (file_wrapper n) → (length b ≡ s → ⊥) → false ≡ same b (file_wrapper n)
+length_stands n b e k = sym (same_not b (file_wrapper n) (λ i. k (ap length i ∙ sym e)))
+
+pub ruleset standing = (length_stands, parts_stand, zeros_stand)
 
 pub many_not : (n : ℕ) (b : List ℕ) → 349522 < n → false ≡ is_file_wrapper n b
 unfolding is_file_wrapper
 many_not n b h = simp (lt-leb n 349522 h)
 
-module _ (n : ℕ) (b : List ℕ) (h : n ≤ 349522) where
-  pub length_not : (length b ≡ length (file_wrapper n) → ⊥) → false ≡ is_file_wrapper n b
-  unfolding is_file_wrapper
-  length_not k = simp (le-leb n 349522 h) (sym (same_not b (file_wrapper n) (λ i. k (ap length i))))
-
-  pub is_blob : {m : ℕ} {p : Bool} → m ≡ n → p ≡ same b (file_wrapper m) → p ≡ is_file_wrapper n b
-  unfolding is_file_wrapper
-  is_blob e k = simp (le-leb n 349522 h) (rw e at k)
+pub is_blob : {n m : ℕ} (b : List ℕ) {p : Bool} → n ≤ 349522 → m ≡ n → p ≡ same b (file_wrapper m) → p ≡ is_file_wrapper n b
+unfolding is_file_wrapper
+is_blob {n} b h e k = simp (le-leb n 349522 h) (rw e at k)

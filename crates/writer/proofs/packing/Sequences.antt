@@ -33,9 +33,6 @@ module _ (s : List ℕ) (i : ℕ) (q : SequenceAt s i) where
 
   -- ---- the reads, sums and returns of `sequence_at`
 
-  pub first_there : i < length s
-  first_there = reads.advance.here
-
   pub second_there : i + 1 < length s
   second_there = omega (arith, more, inside)
 
@@ -43,9 +40,6 @@ module _ (s : List ℕ) (i : ℕ) (q : SequenceAt s i) where
     module _ (t : r₄ ≡ true) where
       four : sequence_length (get_or s i 0) ≡ 4
       four = eqb-true (sequence_length (get_or s i 0)) 4 (sym is₄ ∙ t)
-
-      pub third_there_of_four : i + 2 < length s
-      third_there_of_four = omega (arith, four, inside)
 
       pub fourth_there : i + 3 < length s
       fourth_there = omega (arith, four, inside)
@@ -71,6 +65,4 @@ module _ (s : List ℕ) (i : ℕ) (q : SequenceAt s i) where
         pub of_three : step_at s i ≡ Scalar (get_or s i 0 % 16 * 4096 + get_or s (i + 1) 0 % 64 * 64 + get_or s (i + 2) 0 % 64) (i + 3)
         of_three = rw (value_3 s i) at (step_is 3 three (omega arith))
 
-pub ruleset there = (first_there, second_there, third_there_of_four, fourth_there)
-
-pub ruleset sequences = (of_four, of_two)
+pub ruleset sequences = (second_there, fourth_there, third_there, of_four, of_two, of_three)

@@ -1,10 +1,7 @@
--- `printing::lines::put_decimal`: the digits of v, up to index i, are still to write.
+-- `printing::lines::put_decimal`: the digits of v, before index i, are still to write.
 -- Assumes nothing.
 use Rattle.printing.proofs.lines.Laws.{Printing}
 use Rattle.printing.proofs.lines.put_decimal.Given as goal
 
-abbrev pub invariant-loop-v : goal.invariant-loop-v
-invariant-loop-v l = Printing l.value l.at l.initial.out l.out l.v l.i
-
-abbrev pub decreases-loop-v : goal.decreases-loop-v
-decreases-loop-v l = l.v
+abbrev pub invariant-loop-i : goal.invariant-loop-i
+invariant-loop-i l = Printing l.value l.out l.v l.i

@@ -4,8 +4,8 @@ use Rattle.printing.proofs.lines.Laws.{plain_room, plain_puts, hex_puts}
 use borrow.Author.Rules.{rules}
 use Rattle.printing.proofs.lines.put_escape.Goals as goal
 
-pub bounds-out-at : goal.bounds-out-at
-bounds-out-at c = search (plain_room, rules)
+pub bounds-out-0 : goal.bounds-out-0
+bounds-out-0 c = search (plain_room, rules)
 
 pub returns-then-is_plain : goal.returns-then-is_plain
 returns-then-is_plain c = search (plain_puts, rules)

@@ -4,9 +4,7 @@ use mathlib.Core.Path.{◌∙◌}
 use borrow.Author.Rules.{rules}
 use Rattle.text.proofs.ReplyLaws.{handed_on}
 use Rattle.reader.specs.Labels.{label_of}
-use Rattle.reader.proofs.labels.Laws.{source_zero, heap_inside, source_ill_formed, source_empty, source_blob}
-use Rattle.reader.proofs.names.Pieces.{has_piece}
-use Rattle.reader.proofs.NameLaws.{parsed, has_name, declared}
+use Rattle.reader.proofs.labels.Laws.{source_zero, stored_name, rest_fits, source_ill_formed, source_empty, source_blob}
 use Rattle.reader.proofs.labels.label_source.Goals as goal
 
 pub returns-in_err-metadata : goal.returns-in_err-metadata
@@ -21,19 +19,17 @@ returns-in_err-check_name c =
 pub returns-then-index-eq0 : goal.returns-then-index-eq0
 returns-then-index-eq0 c = search (source_zero, c.in_ok-metadata.ensures.0, rules)
 
-pub piece_start-start-requires : goal.piece_start-start-requires
-piece_start-start-requires c =
-    let m = c.in_ok-metadata.metadata in
-    has_piece (has_name (parsed c.in_ok-metadata.ensures.0) (declared m.w _ c.in_ok-check_name.ensures)) c.if-index-eq0.false
-
-pub slice_bounds-terminated_length-end : goal.slice_bounds-terminated_length-end
-slice_bounds-terminated_length-end c = heap_inside _ c.args.placeholder.now c.args.index c.in_ok-metadata.ensures.0
+pub heap_from-rest-requires : goal.heap_from-rest-requires
+heap_from-rest-requires c = search (stored_name, c.in_ok-metadata.ensures.0, c.in_ok-check_name.ensures, rules)
 
 pub returns-in_default : goal.returns-in_default
 returns-in_default c = search (source_ill_formed, c.in_ok-metadata.ensures.0, c.in_ok-check_name.ensures, c.in_default.ensures, rules)
 
 pub returns-then-length-eq0 : goal.returns-then-length-eq0
 returns-then-length-eq0 c = search (source_empty, c.in_ok-metadata.ensures.0, c.in_ok-check_name.ensures, c.in-Some.ensures, rules)
+
+pub overflow_sub-result : goal.overflow_sub-result
+overflow_sub-result c = search (rest_fits, c.in_ok-metadata.ensures.0, c.in_ok-check_name.ensures, rules)
 
 pub returns : goal.returns
 returns c = search (source_blob, c.in_ok-metadata.ensures.0, c.in_ok-check_name.ensures, c.in-Some.ensures, rules)

@@ -4,4 +4,4 @@ use Rattle.reader.proofs.names.Comparison.{Agreeing}
 use Rattle.reader.proofs.names.compare_piece.Given as goal
 
 abbrev pub invariant-loop-n : goal.invariant-loop-n
-invariant-loop-n l = Agreeing l.blob l.start l.end l.wanted l.n
+invariant-loop-n l = Agreeing l.rest l.wanted l.n

@@ -1,14 +1,11 @@
 -- `reader::names::piece_end` meets its contract.
 -- Assumes nothing.
-use Rattle.reader.proofs.names.Pieces.{run_start, run_zero, run_byte, run_last}
+use Rattle.reader.proofs.names.Pieces.{run_zero, run_byte, run_last}
 use borrow.Author.Rules.{rules}
 use Rattle.reader.proofs.names.piece_end.Goals as goal
 
-pub loop-i-init : goal.loop-i-init
-loop-i-init c = search (run_start, rules)
-
-pub returns-then-blob-i-eq0 : goal.returns-then-blob-i-eq0
-returns-then-blob-i-eq0 c = search (run_zero, rules)
+pub returns-then-rest-i-eq0 : goal.returns-then-rest-i-eq0
+returns-then-rest-i-eq0 c = search (run_zero, rules)
 
 pub loop-i-preserved : goal.loop-i-preserved
 loop-i-preserved c = search (run_byte, rules)

@@ -1,11 +1,12 @@
 -- `reader::names::skip_blocks` meets its contract.
 -- Assumes nothing.
-use Rattle.reader.proofs.names.Pieces.{count_none, count_more}
-use borrow.Author.Rules.{rules}
+use native.Mathlib.Omega.{arith}
+use Rattle.reader.proofs.names.Pieces.{skip_counts, skip_turn}
 use Rattle.reader.proofs.names.skip_blocks.Goals as goal
 
-pub loop-at-init : goal.loop-at-init
-loop-at-init c = search (count_none, rules)
+pub overflow_add-more : goal.overflow_add-more
+overflow_add-more c = omega (arith, skip_counts c.loop-block.invariant c.count_zeros.ensures c.in-Some.ensures.cases.0)
 
-pub loop-at-preserved : goal.loop-at-preserved
-loop-at-preserved c = search (count_more, rules)
+pub loop-block-preserved : goal.loop-block-preserved
+loop-block-preserved c =
+    skip_turn c.loop-block.invariant c.count_zeros.ensures c.in-Some.ensures.cases.0 c.in-Some.ensures.cases.1 (omega arith)

@@ -1,11 +1,11 @@
 -- What the loop of `reader::names::skip_blocks` keeps, and its measure.
 -- Assumes nothing.
-use Prim.Native.Nat.{◌-◌}
+use lib.ListN.{length}
 use Rattle.reader.specs.Stages.Names.{Skips}
 use Rattle.reader.proofs.names.skip_blocks.Given as goal
 
-abbrev pub invariant-loop-at : goal.invariant-loop-at
-invariant-loop-at l = Skips l.blob l.start l.end l.most (record { zeros = l.zeros; at = l.at })
+abbrev pub invariant-loop-block : goal.invariant-loop-block
+invariant-loop-block l = Skips l.bytes l.most l.zeros l.rest
 
-abbrev pub decreases-loop-at : goal.decreases-loop-at
-decreases-loop-at l = l.end - l.at
+abbrev pub decreases-loop-block : goal.decreases-loop-block
+decreases-loop-block l = length l.rest

@@ -9,4 +9,4 @@ pub loop-i-preserved : goal.loop-i-preserved
 loop-i-preserved c = search (mapping_turn, rules)
 
 pub returns : goal.returns
-returns c = mapping_last _ c.loop-i.invariant (omega arith)
+returns c = mapping_last _ c.loop-i.invariant c.args.chunk.any c.if-not-chunk.false (omega arith)

@@ -5,4 +5,4 @@ use borrow.Author.Rules.{rules}
 use Rattle.reader.proofs.units.put_three.Goals as goal
 
 pub returns : goal.returns
-returns c = search (three_puts, rules)
+returns c = three_puts _ _ c.requires (search rules)

@@ -16,7 +16,7 @@ returns-then-first-gt56319 c = search rules
 
 pub returns : goal.returns
 returns c =
-    rw c.in_ok-low.was
+    rw (c.in_ok-low.was, c.from-2.ensures, c.from-3.ensures)
     (step_pair c.args.first c.if-first-lt55296.false c.if-first-gt57343.false c.if-first-gt56319.false c.if-low-lt56320.false c.if-low-gt57343.false)
 
 pub returns-in_err-low : goal.returns-in_err-low

@@ -9,4 +9,4 @@ pub loop-i-preserved : goal.loop-i-preserved
 loop-i-preserved c = search (fill_turn, rules)
 
 pub returns : goal.returns
-returns c = fill_last c.args.self c.loop-i.invariant (omega arith)
+returns c = fill_last c.args.self c.loop-i.invariant c.requires (omega arith)
