@@ -98,7 +98,7 @@ unfolding starred replaced_in flat_map fold_range fold_count decode_payload chec
 starred_hold = refl
 
 -- document 02's import of so many bytes whose characters have one, two and three bytes in UTF-8, into room bytes: 34 by the need alone
--- (`text_need` of crates/text/proofs/ImportLaws.antt)
+-- (`text_need` of crates/text/proofs/latin9/Import.antt)
 abbrev imported : ℕ → ℕ → ℕ → ℕ → Result (List ℕ)
 imported room ones twos threes = map_result (λ _. []) (check_output (ones + 2 * twos + 3 * threes) room)
 

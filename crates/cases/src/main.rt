@@ -114,6 +114,8 @@ fn of_names(rt: &impl Print) -> io::Result<()> {
     resolve(rt, "no name", 6)
 }
 
+// The five from here on each take the runtime and a label: a struct of the two would be made anew for each line that they print.
+
 // A text: its repaired text and how many parts of it were replaced, and the position of the first ill-formed part.
 fn show(rt: &impl Print, label: &str, bytes: &[u8]) -> io::Result<()> {
     print!(rt; "{label}:{}", Bytes(bytes))?;

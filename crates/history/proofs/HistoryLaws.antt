@@ -15,6 +15,7 @@ use Rattle.text.specs.Result.{Result, ok, error, map_result, check_output, overw
 use Rattle.text.specs.declared.error.Failure.{Failure}
 use Rattle.text.specs.declared.error.MatError.{MatError}
 use Rattle.text.proofs.BufferLaws.{SoFar, begins, goes_on, ends}
+use Rattle.text.proofs.TestLaws.{clash}
 use Rattle.writer.specs.Array.{payloads}
 use Rattle.writer.specs.FileWrapper.{file_wrapper, build_metadata}
 use Rattle.writer.specs.Spans.{spans_from}
@@ -158,12 +159,12 @@ module _ (blob : List ℕ) {blob' : List ℕ} where
   built_by : (c : Result (Unit {0})) {n : ℕ} → ok n ≡ map_result length (c >> ok (file_wrapper 0)) → blob' ≡ overwritten (λ x. x) (c >> ok (file_wrapper 0)) blob
       → (c ≡ ok tt) × (blob' ≡ over (file_wrapper 0) blob)
   built_by (ok t) m b = (refl, b)
-  built_by (error f) m b = let z : ◌≡◌ {A = ℕ} 0 1 = cc in absurd (omega arith)
+  built_by (error f) m b = clash cc
 
   refused_by : (c : Result (Unit {0})) {f : Failure} → error f ≡ map_result length (c >> ok (file_wrapper 0)) → blob' ≡ overwritten (λ x. x) (c >> ok (file_wrapper 0)) blob
       → (c ≡ error f) × (blob' ≡ blob)
   refused_by (error g) m b = (cc, b)
-  refused_by (ok t) m b = let z : ◌≡◌ {A = ℕ} 0 1 = cc in absurd (omega arith)
+  refused_by (ok t) m b = clash cc
 
   module _ {n : ℕ} (m : ok n ≡ map_result length (build_metadata 0 (length blob))) (b : blob' ≡ overwritten (λ x. x) (build_metadata 0 (length blob)) blob) (directory kinds words : List ℕ) where
     built : (check_output 144 (length blob) ≡ ok tt) × (blob' ≡ over (file_wrapper 0) blob)

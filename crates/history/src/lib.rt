@@ -20,7 +20,7 @@ pub const EDIT_WIDTH: usize = 8;
 
 pub const REPLY_WIDTH: usize = 2;
 
-// A list of edits as flat numbers, which any caller can lend. Edit i is the eight numbers of ops from 8 * i on: its kind (0 appends, any
+// A list of edits as flat numbers, whose count may be any: `&[[u64; 8]]` would ask more of a caller than now. Edit i is the eight numbers of ops from 8 * i on: its kind (0 appends, any
 // other replaces), its object id, and the offset and length of its dimensions in dims, of its text in text and of its spans in spans. A part
 // that does not lie in its list is cut to it.
 #[derive(Clone, Copy, Debug)]
@@ -69,8 +69,7 @@ impl<'a> EditList<'a> {
 }
 
 // Writes a reply as two numbers: the check's number and its place, 0 and 0 for none.
-// Flat, as any caller can lend them.
-// Numbers, because the replies that are lent to run_edits are flat ones.
+// Flat, as run_edits takes them: a list of any length, of which `&mut [[u64; 2]]` would ask more of a caller than now.
 fn put_reply(reply: Result<Counts, MatError>, replies: &mut [u64], at: usize)
     requires { at + 1 < length replies.old }
     ensures { replies.new ≡ put replies.old at (numbers_of (reply_of (outcome reply))) }
@@ -87,6 +86,7 @@ fn put_reply(reply: Result<Counts, MatError>, replies: &mut [u64], at: usize)
 }
 
 // A store in the lent buffers, which edits write.
+// Not store's own struct of them, which is private there and lends them to be read.
 #[derive(Drop)]
 struct StoreMut<'a> {
     counts: Counts,
@@ -124,6 +124,7 @@ impl StoreMut<'_> {
     }
 
     // Runs the edits, each on what the last one left, and answers how many.
+    // The replies are no part of the list: it is read, of a type that is copied, and they are written.
     fn run_all(&mut self, edits: EditList<'_>, replies: &mut [u64]) -> u64
         requires { IsEmpty (store_in self.old) }
         ensures kept { KeepsBuffers self.old self.new }

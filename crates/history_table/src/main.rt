@@ -18,9 +18,7 @@ const MOST_OBJECTS: u32 = 5;
 
 // The reply of each of the edits.
 fn print_replies(rt: &impl Print, replies: &[u64]) -> io::Result<()> {
-    for i in 0..replies.len() / 2 {
-        let number = replies[2 * i];
-        let place = replies[2 * i + 1];
+    for (i, [number, place]) in replies.as_chunks::<2>().0.iter().enumerate() {
         println!(rt; "edit {i}: {number} {place}")?;
     }
     Ok(())
@@ -28,9 +26,9 @@ fn print_replies(rt: &impl Print, replies: &[u64]) -> io::Result<()> {
 
 // Each string between quotes.
 fn print_strings(rt: &impl Print, text: &[u8], spans: &[u64]) -> io::Result<()> {
-    for i in 0..spans.len() / 2 {
+    for [offset, len] in spans.as_chunks::<2>().0 {
         rt.write_all(b" \"")?;
-        rt.write_all(part(text, spans[2 * i], spans[2 * i + 1]))?;
+        rt.write_all(part(text, *offset, *len))?;
         rt.write_all(b"\"")?;
     }
     println!(rt)
@@ -114,38 +112,24 @@ impl<'a> Store<'a> {
     }
 }
 
-// Writes the numbers of an edit from index at on, where they fit.
-// Flat numbers, as run_edits takes them.
-fn put_edit(ops: &mut [u64], at: usize, numbers: [u64; 8]) {
-    if ops.len() < 8 {
-        return;
-    }
-    if ops.len() - 8 < at {
-        return;
-    }
-    ops[at..at + 8].copy_from_slice(&numbers);
-}
-
-// The edits that are accepted. The numbers are kind, object id, and offset and length of dimensions, text and spans.
-fn put_accepted(ops: &mut [u64]) {
+// The edits, as run_edits takes them: eight numbers each, its kind, its object id, and the offset and length of its dimensions, its text and
+// its spans.
+const OPS: [[u64; 8]; 10] = [
     // Appends "0 L", "184.5", and two strings.
-    put_edit(ops, 0, [0, 0, 0, 2, 0, 3, 0, 2]);
-    put_edit(ops, 8, [0, 0, 0, 2, 3, 5, 2, 2]);
-    put_edit(ops, 16, [0, 0, 2, 2, 8, 17, 4, 4]);
+    [0, 0, 0, 2, 0, 3, 0, 2],
+    [0, 0, 0, 2, 3, 5, 2, 2],
+    [0, 0, 2, 2, 8, 17, 4, 4],
     // A longer string for object 1, and a shorter one, cut from the whole text, for object 2.
-    put_edit(ops, 24, [1, 1, 0, 2, 25, 11, 8, 2]);
-    put_edit(ops, 32, [1, 2, 0, 2, 0, 40, 10, 2]);
+    [1, 1, 0, 2, 25, 11, 8, 2],
+    [1, 2, 0, 2, 0, 40, 10, 2],
+    // Refused: no object 4, ill-formed text, one string for two by two, and more words than there are.
+    [1, 4, 0, 2, 0, 3, 0, 2],
+    [0, 0, 0, 2, 38, 2, 12, 2],
+    [0, 0, 4, 2, 0, 3, 0, 2],
+    [0, 0, 0, 2, 0, 3, 0, 2],
     // Appends an array of no strings.
-    put_edit(ops, 72, [0, 0, 6, 2, 0, 0, 0, 0]);
-}
-
-// The edits that are refused: no object 4, ill-formed text, one string for two by two, and more words than there are.
-fn put_refused(ops: &mut [u64]) {
-    put_edit(ops, 40, [1, 4, 0, 2, 0, 3, 0, 2]);
-    put_edit(ops, 48, [0, 0, 0, 2, 38, 2, 12, 2]);
-    put_edit(ops, 56, [0, 0, 4, 2, 0, 3, 0, 2]);
-    put_edit(ops, 64, [0, 0, 0, 2, 0, 3, 0, 2]);
-}
+    [0, 0, 6, 2, 0, 0, 0, 0],
+];
 
 fn print_run(rt: &impl Print, ran: Ran, store: Store<'_>, replies: &[u64]) -> io::Result<()> {
     print_replies(rt, replies)?;
@@ -162,9 +146,7 @@ fn main(rt: HostRuntime) -> io::Result<()> {
     let kinds: &mut [u8] = &mut [0; 5];
     let words: &mut [u64] = &mut [0; 28];
     let replies: &mut [u64] = &mut [0; 20];
-    let ops: &mut [u64] = &mut [0; 80];
-    put_accepted(ops);
-    put_refused(ops);
+    let ops: &[u64] = OPS.as_flattened();
     let dims: &[u64] = &[1, 1, 1, 2, 2, 2, 2, 0];
     let text: &[u8] = b"0 L184.5F\xC3\xBCllstand\xE2\x9B\xBD\xF0\x9F\x9A\x97184.5 Liter37A\xFF";
     let spans: &[u64] = &[0, 3, 0, 5, 0, 10, 10, 7, 0, 11, 36, 2, 0, 2];

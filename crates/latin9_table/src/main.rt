@@ -8,6 +8,7 @@ ghost use Rattle.text.specs.Latin9.{code_point};
 use std::io;
 
 // The rule: equal to the byte, with eight exceptions.
+#[tactic(auto, using(text::proofs::Latin9Laws::point_cases))]
 fn code_point(byte: u8) -> u32
     ensures { result ≡ code_point byte }
 {

@@ -17,8 +17,9 @@ use Rattle.reader.specs.declared.labels.Source.{Source}
 use Rattle.reader.specs.declared.labels.Source.TheVariants as source
 use Rattle.reader.specs.declared.opaque.OpaqueMetadata.{OpaqueMetadata}
 use Rattle.store.specs.Edits.{store_after}
-use Rattle.store.specs.Store.{Store, store_of}
-use Rattle.store.specs.declared.counts.Counts.{Counts}
+use Rattle.store.specs.Store.{Store}
+use Rattle.mcos.specs.declared.cells.McosFileWrapper.{McosFileWrapper}
+use Rattle.mcos.specs.declared.cells.McosPart.{McosPart}
 
 -- 0, or the number of the check that does not hold
 abbrev pub number_of : {A : Type 0} → Result A → ℕ
@@ -70,11 +71,16 @@ pub record ExportsStrings (m : ℕ → ℕ → Result (List (List ℕ))) (text s
   pub text_after : text' ≡ overwritten joined (m (length text) (length spans)) text
   pub spans_after : spans' ≡ overwritten (spans_from 0) (m (length text) (length spans)) spans
 
--- the numbers of an opened blob: names, classes, records, the blocks of both regions, the eight offsets
-abbrev pub layout_of : FileWrapper → List ℕ
-layout_of w =
-    w.names ∷ w.classes ∷ w.records ∷ w.saveobj_blocks ∷ w.normalobj_blocks
-    ∷ get_or w.offsets 0 0 ∷ get_or w.offsets 1 0 ∷ get_or w.offsets 2 0 ∷ get_or w.offsets 3 0 ∷ get_or w.offsets 4 0 ∷ get_or w.offsets 5 0 ∷ get_or w.offsets 6 0 ∷ get_or w.offsets 7 0 ∷ []
+-- the numbers of an opened blob, as C reads them
+abbrev pub file_wrapper_cells : FileWrapper → McosFileWrapper
+file_wrapper_cells w = record {
+  names = w.names;
+  classes = w.classes;
+  records = w.records;
+  saveobj_blocks = w.saveobj_blocks;
+  normalobj_blocks = w.normalobj_blocks;
+  offsets = get_or w.offsets 0 0 ∷ get_or w.offsets 1 0 ∷ get_or w.offsets 2 0 ∷ get_or w.offsets 3 0 ∷ get_or w.offsets 4 0 ∷ get_or w.offsets 5 0 ∷ get_or w.offsets 6 0 ∷ get_or w.offsets 7 0 ∷ [];
+}
 
 -- "which buffer the part belongs to": 0 the blob, 1 the placeholder
 abbrev pub source_cell : Source → ℕ
@@ -82,8 +88,8 @@ source_cell source.Blob = 0
 source_cell source.Placeholder = 1
 
 -- the numbers of a label's part: buffer, first byte, length
-abbrev pub part_cells : Part → List ℕ
-part_cells p = source_cell p.source ∷ p.start ∷ p.length ∷ []
+abbrev pub part_cells : Part → McosPart
+part_cells p = record { source = source_cell p.source; start = p.start; length = p.length }
 
 -- 1 where there is a position, else 0
 abbrev pub found_of : Option ℕ → ℕ
@@ -98,18 +104,6 @@ pub record ExportsFound (m : Result (Option ℕ)) (found position place r found'
 -- the cells of the first id's position, the number of ids and the class id, together
 abbrev pub opaque_cells : ℕ → ℕ → ℕ → OpaqueMetadata
 opaque_cells first ids class = record { first_id = first; ids = ids; class_id = class }
-
--- the cells of a store's counts: objects, blob bytes, words
-abbrev pub count_list : Counts → List ℕ
-count_list c = c.objects ∷ c.blob_bytes ∷ c.words ∷ []
-
--- the counts by their cells
-abbrev pub counts_in : List ℕ → Counts
-counts_in cells = record { objects = get_or cells 0 0; blob_bytes = get_or cells 1 0; words = get_or cells 2 0 }
-
--- a store by the cells of its counts and its buffers
-abbrev pub store_in : List ℕ → List ℕ → List ℕ → List ℕ → List ℕ → Store
-store_in counts = store_of (get_or counts 0 0) (get_or counts 1 0) (get_or counts 2 0)
 
 -- an edit of the store s that comes to m and leaves the store s'
 pub record ExportsEdit (s : Store) (m : Result (List Array)) (place r : ℕ) (s' : Store) (place' : ℕ) : Type 0 where

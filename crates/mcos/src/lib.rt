@@ -1,6 +1,6 @@
 // The library's calls for C. Each answers 0 where the call is accepted, else the number of the check that does not hold (document 01's
 // question). An accepted call writes the cells of its values and keeps the cell of the place; a refused one writes the place and nothing else.
-// C passes a cell for each number and each buffer by itself, so that they are parameters here, and the contracts name them alike.
+// C passes each cell and each buffer by itself, so that they are parameters here, and the contracts name them alike.
 #![tactic(auto)]
 
 ghost use Rattle.std.specs.Prelude.{◌≡◌};
@@ -20,10 +20,13 @@ ghost use Rattle.reader.specs.Opening.{opened};
 ghost use Rattle.reader.specs.Queries.{into_output, into_text, name_text, class_text, object_class_text};
 ghost use Rattle.reader.specs.Saveobj.{decode_payload, into_strings};
 ghost use Rattle.store.specs.Edits.{appended, replaced};
-ghost use Rattle.mcos.specs.Exports.{count_cells, count_list, counts_in, layout_of, opaque_cells, part_cells, source_cell, store_in, text_cells, Exports, ExportsEdit, ExportsFound, ExportsList, ExportsLossy, ExportsStrings, ExportsText};
+ghost use Rattle.store.specs.Replies.{store_with};
+ghost use Rattle.mcos.specs.Exports.{count_cells, file_wrapper_cells, opaque_cells, part_cells, text_cells, Exports, ExportsEdit, ExportsFound, ExportsList, ExportsLossy, ExportsStrings, ExportsText};
 
+pub mod cells;
+
+use cells::{McosFileWrapper, McosPart};
 use reader::file_wrapper::FileWrapper;
-use reader::labels::{Part, Source};
 use reader::objects::ObjectRow;
 use reader::properties::PropertyRow;
 use reader::saveobj::DecodedSize;
@@ -49,19 +52,45 @@ fn put_error(e: MatError, place: &mut u64) -> u32
     failure.number
 }
 
-// Each of these writes what a reply says, its value or its place, and gives its number.
-// There is one for each number of cells that C lends: a trait would take an impl for each of them.
-fn put_length(reply: Result<usize, MatError>, length: &mut u64, place: &mut u64) -> u32
-    ensures { Exports (λ x. x) (outcome reply) length.old place.old result
-        length.new place.new }
+// Writes what a reply says, its value or its place, and gives its number.
+fn put_value<T: Copy>(reply: Result<T, MatError>, cell: &mut T, place: &mut u64) -> u32
+    ensures { Exports (λ x. x) (outcome reply) cell.old place.old result cell.new place.new }
 {
     match reply {
-        Ok(n) => {
-            *length = n as u64;
+        Ok(value) => {
+            *cell = value;
             0
         }
         Err(e) => put_error(e, place),
     }
+}
+
+// The same of two numbers, since C lends a cell for each of them and no struct of both.
+fn put_pair(
+    reply: Result<(u64, u64), MatError>,
+    first: &mut u64,
+    second: &mut u64,
+    place: &mut u64,
+) -> u32
+    ensures { Exports (λ x. x) (outcome reply) (first.old, second.old) place.old
+        result (first.new, second.new) place.new }
+{
+    match reply {
+        Ok((a, b)) => {
+            *first = a;
+            *second = b;
+            0
+        }
+        Err(e) => put_error(e, place),
+    }
+}
+
+// Here and in the two below, sizes become the 64 bits of C's cells: once, and not at each of the calls that give such a reply.
+fn put_length(reply: Result<usize, MatError>, length: &mut u64, place: &mut u64) -> u32
+    ensures { Exports (λ x. x) (outcome reply) length.old place.old result
+        length.new place.new }
+{
+    put_value(reply.map(|n| n as u64), length, place)
 }
 
 fn put_text(
@@ -73,14 +102,8 @@ fn put_text(
     ensures { Exports (λ x. x) (outcome reply) (text_cells bytes.old replaced.old) place.old
         result (text_cells bytes.new replaced.new) place.new }
 {
-    match reply {
-        Ok(size) => {
-            *bytes = size.bytes as u64;
-            *replaced = size.replaced as u64;
-            0
-        }
-        Err(e) => put_error(e, place),
-    }
+    let cells = reply.map(|size| (size.bytes as u64, size.replaced as u64));
+    put_pair(cells, bytes, replaced, place)
 }
 
 fn put_strings(
@@ -92,38 +115,8 @@ fn put_strings(
     ensures { Exports (λ x. x) (outcome reply) (count_cells bytes.old strings.old) place.old
         result (count_cells bytes.new strings.new) place.new }
 {
-    match reply {
-        Ok(size) => {
-            *bytes = size.bytes as u64;
-            *strings = size.strings as u64;
-            0
-        }
-        Err(e) => put_error(e, place),
-    }
-}
-
-fn put_counts(reply: Result<Counts, MatError>, counts: &mut [u64; 3], place: &mut u64) -> u32
-    ensures { Exports count_list (outcome reply) counts.old place.old result
-        counts.new place.new }
-{
-    match reply {
-        Ok(c) => {
-            *counts = [c.objects, c.blob_bytes, c.words];
-            0
-        }
-        Err(e) => put_error(e, place),
-    }
-}
-
-// The counts of a store by their cells.
-fn counts_of(cells: [u64; 3]) -> Counts
-    ensures { result ≡ counts_in cells }
-{
-    Counts {
-        objects: cells[0],
-        blob_bytes: cells[1],
-        words: cells[2],
-    }
+    let cells = reply.map(|size| (size.bytes as u64, size.strings as u64));
+    put_pair(cells, bytes, strings, place)
 }
 
 // Each call from here on is a C name with a contract of its own, also where two differ in the call that they make alone.
@@ -245,41 +238,16 @@ pub extern "C" fn mcos_build_string_filewrapper_metadata(
     )
 }
 
-// The numbers of an opened blob: names, classes, records, the blocks of both regions, the eight offsets.
-// An array, as C reads it. From is no way, for neither type is this crate's.
-fn layout_of(w: FileWrapper) -> [u64; 13]
-    ensures { result ≡ layout_of w }
-{
-    [
-        u64::from(w.names),
-        w.classes as u64,
-        w.records as u64,
-        w.saveobj_blocks as u64,
-        w.normalobj_blocks as u64,
-        w.offsets[0] as u64,
-        w.offsets[1] as u64,
-        w.offsets[2] as u64,
-        w.offsets[3] as u64,
-        w.offsets[4] as u64,
-        w.offsets[5] as u64,
-        w.offsets[6] as u64,
-        w.offsets[7] as u64,
-    ]
-}
-
-// A match of its own, as in mcos_label, mcos_find_property and mcos_parse_opaque_metadata: no other call has these cells.
 #[unsafe(no_mangle)]
-pub extern "C" fn mcos_parse(blob: &[u8], layout: &mut [u64; 13], place: &mut u64) -> u32
-    ensures { Exports layout_of (opened blob.now) layout.old place.old
+pub extern "C" fn mcos_parse(blob: &[u8], layout: &mut McosFileWrapper, place: &mut u64) -> u32
+    ensures { Exports file_wrapper_cells (opened blob.now) layout.old place.old
         result layout.new place.new }
 {
-    match FileWrapper::parse(blob) {
-        Ok(w) => {
-            *layout = layout_of(w);
-            0
-        }
-        Err(e) => put_error(e, place),
-    }
+    put_value(
+        FileWrapper::parse(blob).map(McosFileWrapper::from),
+        layout,
+        place,
+    )
 }
 
 #[unsafe(no_mangle)]
@@ -299,42 +267,19 @@ pub extern "C" fn mcos_name(
     put_text(names::name(blob, index, text), bytes, replaced, place)
 }
 
-// The cell of a part's buffer.
-// Numbers, here and below, as C reads them. From is no way, for neither type is this crate's.
-fn source_cell(source: Source) -> u64
-    ensures { result ≡ source_cell source }
-{
-    match source {
-        Source::Blob => 0,
-        Source::Placeholder => 1,
-    }
-}
-
-fn part_cells(part: Part) -> [u64; 3]
-    ensures { result ≡ part_cells part }
-{
-    let source = part.source;
-    [source_cell(source), part.start as u64, part.length as u64]
-}
-
 #[unsafe(no_mangle)]
 pub extern "C" fn mcos_label(
     blob: &[u8],
     placeholder: &[u8],
     index: u32,
-    part: &mut [u64; 3],
+    part: &mut McosPart,
     place: &mut u64,
 ) -> u32
     ensures { let m = label_of blob.now placeholder.now index in
         Exports part_cells m part.old place.old result part.new place.new }
 {
-    match labels::label_source(blob, placeholder, index) {
-        Ok(p) => {
-            *part = part_cells(p);
-            0
-        }
-        Err(e) => put_error(e, place),
-    }
+    let reply = labels::label_source(blob, placeholder, index);
+    put_value(reply.map(McosPart::from), part, place)
 }
 
 #[unsafe(no_mangle)]
@@ -396,6 +341,7 @@ pub extern "C" fn mcos_properties(
     put_length(properties::properties(blob, object_id, rows), count, place)
 }
 
+// A match of its own: the cell of the position is written only where there is one, and no other call has such a cell.
 #[unsafe(no_mangle)]
 pub extern "C" fn mcos_find_property(
     blob: &[u8],
@@ -437,6 +383,7 @@ pub extern "C" fn mcos_list_objects(
     put_length(listing::list_objects(blob, rows), count, place)
 }
 
+// A match of its own: no other call has three cells for its value.
 #[unsafe(no_mangle)]
 pub extern "C" fn mcos_parse_opaque_metadata(
     metadata: &[u32],
@@ -536,7 +483,7 @@ pub extern "C" fn mcos_decode_string_object(
 // The counts of a store are its objects, its blob's bytes and its words.
 #[unsafe(no_mangle)]
 pub extern "C" fn mcos_append(
-    counts: &mut [u64; 3],
+    counts: &mut Counts,
     blob: &mut [u8],
     directory: &mut [u64],
     kinds: &mut [u8],
@@ -546,19 +493,19 @@ pub extern "C" fn mcos_append(
     spans: &[u64],
     place: &mut u64,
 ) -> u32
-    ensures { let s = store_in counts.old blob.old directory.old kinds.old words.old in
-        let t = store_in counts.new blob.new directory.new kinds.new words.new in
+    ensures { let s = store_with counts.old blob.old directory.old kinds.old words.old in
+        let t = store_with counts.new blob.new directory.new kinds.new words.new in
         ExportsEdit s (appended s dims.now text.now spans.now)
         place.old result t place.new }
 {
     let array = StringArray { dims, text, spans };
-    let reply = append_at(counts_of(*counts), blob, directory, kinds, words, array);
-    put_counts(reply, counts, place)
+    let reply = append_at(*counts, blob, directory, kinds, words, array);
+    put_value(reply, counts, place)
 }
 
 #[unsafe(no_mangle)]
 pub extern "C" fn mcos_replace(
-    counts: &mut [u64; 3],
+    counts: &mut Counts,
     blob: &[u8],
     directory: &mut [u64],
     kinds: &[u8],
@@ -569,20 +516,12 @@ pub extern "C" fn mcos_replace(
     spans: &[u64],
     place: &mut u64,
 ) -> u32
-    ensures { let s = store_in counts.old blob.now directory.old kinds.now words.old in
-        let t = store_in counts.new blob.now directory.new kinds.now words.new in
+    ensures { let s = store_with counts.old blob.now directory.old kinds.now words.old in
+        let t = store_with counts.new blob.now directory.new kinds.now words.new in
         ExportsEdit s (replaced s object_id dims.now text.now spans.now)
         place.old result t place.new }
 {
     let array = StringArray { dims, text, spans };
-    let reply = replace_at(
-        counts_of(*counts),
-        blob,
-        directory,
-        kinds,
-        words,
-        object_id,
-        array,
-    );
-    put_counts(reply, counts, place)
+    let reply = replace_at(*counts, blob, directory, kinds, words, object_id, array);
+    put_value(reply, counts, place)
 }

@@ -99,20 +99,17 @@ pub fn write_escaped(name: &[u8], out: &mut [u8]) -> Result<usize, MatError>
 }
 
 // The number of decimal digits of a value.
-// A `while`, since the value ends it.
 fn decimal_length(value: u32) -> usize
     ensures { CountsDigits value result }
 {
-    let mut n: usize = 1;
-    let mut v = value;
-    while 10 <= v {
-        v /= 10;
-        n += 1;
+    match value.checked_ilog10() {
+        Some(k) => k as usize + 1,
+        None => 1,
     }
-    n
 }
 
 // Writes the decimal digits of a value over out. Division gives the last one first.
+// By index: the loop's invariant says from which one on the digits stand.
 fn put_decimal(value: u32, out: &mut [u8])
     requires { length out.old ≡ length (decimal value) }
     ensures { out.new ≡ decimal value }

@@ -4,6 +4,7 @@ ghost use Rattle.printing.specs.Lines.{escaped, line_text};
 ghost use Rattle.printing.specs.Output.{start_of, Adds};
 
 use crate::lines::{LinePart, write_escaped, write_part};
+use std::io;
 use text::error::MatError;
 
 // Room for what is put into the buffer at a time: a part of a line, or a chunk of a name.
@@ -19,22 +20,17 @@ pub(crate) fn buffer<T: Copy + Default, const N: usize>() -> [T; N]
     [T::default(); N]
 }
 
-// Writes bytes, and answers whether all were written. Where that fails, it is told on standard error.
-fn write_all(rt: &(impl Print + Eprint), bytes: &[u8]) -> bool {
-    match rt.write_all(bytes) {
-        Ok(()) => true,
-        Err(e) => {
-            let _ = rt.eprintln(format_args!("standard output: {e}"));
-            false
-        }
-    }
+// Tells on standard error that reading or writing failed.
+pub(crate) fn tell(rt: &impl Eprint, stream: &str, error: io::Error) {
+    let _ = rt.eprintln(format_args!("{stream}: {error}"));
 }
 
 // A lent buffer, how many of its bytes are still to be written, and whether a write failed. After that nothing is written any more. The
 // buffer has room for every text once it is empty.
 // A flag and no Result: each put promises what the buffer holds also after a write that failed, where `?` would have returned.
 #[derive(Drop)]
-pub(crate) struct Output<'a> {
+pub(crate) struct Output<'a, R> {
+    rt: &'a R,
     pub(crate) out: &'a mut [u8],
     pub(crate) used: usize,
     pub(crate) failed: bool,
@@ -42,11 +38,12 @@ pub(crate) struct Output<'a> {
     ghost inside: { used ≤ length out.now },
 }
 
-impl<'a> Output<'a> {
-    pub(crate) fn new(out: &'a mut [u8]) -> Output<'a>
+impl<'a, R: Print + Eprint> Output<'a, R> {
+    pub(crate) fn new(rt: &'a R, out: &'a mut [u8]) -> Output<'a, R>
         requires { 4096 ≤ length out.old }
     {
         Output {
+            rt,
             out,
             used: 0,
             failed: false,
@@ -54,7 +51,7 @@ impl<'a> Output<'a> {
     }
 
     // Writes what the buffer holds.
-    fn flush(&mut self, rt: &(impl Print + Eprint))
+    fn flush(&mut self)
         ensures { self.new.used ≡ 0 }
     {
         let used = self.used;
@@ -62,17 +59,20 @@ impl<'a> Output<'a> {
         if self.failed {
             return;
         }
-        self.failed = !write_all(rt, &self.out[0..used]);
+        let written = self.rt.write_all(&self.out[0..used]);
+        self.failed = written
+            .map_err(|error| tell(self.rt, "standard output", error))
+            .is_err();
     }
 
-    // Writes the rest, and answers whether all was written.
-    pub(crate) fn finish(&mut self, rt: &(impl Print + Eprint)) -> bool {
-        self.flush(rt);
+    // Writes the rest, and answers whether all was written: a bool, since the error was told when it came.
+    pub(crate) fn finish(&mut self) -> bool {
+        self.flush();
         !self.failed
     }
 
     // Makes room for a text.
-    fn make_room(&mut self, rt: &(impl Print + Eprint))
+    fn make_room(&mut self)
         ensures place { self.new.used ≡ start_of self.old.out.now self.old.used }
         ensures kept { take self.new.used self.new.out.now ≡ take self.new.used self.old.out.now }
         ensures room { self.new.used + 4096 ≤ length self.new.out.now }
@@ -80,45 +80,45 @@ impl<'a> Output<'a> {
         if ROOM <= self.out.len() - self.used {
             return;
         }
-        self.flush(rt);
+        self.flush();
     }
 
     // Puts a part of a line after what the buffer holds. It has at most 29 bytes, so that it is never refused.
-    pub(crate) fn put_part(&mut self, rt: &(impl Print + Eprint), part: LinePart)
+    pub(crate) fn put_part(&mut self, part: LinePart)
         ensures { Adds (line_text part) self.old.out.now self.old.used self.new.out.now self.new.used }
     {
-        self.make_room(rt);
+        self.make_room();
         let used = self.used;
         let n = write_part(part, &mut self.out[used..]).unwrap_or(0);
         self.used += n;
     }
 
     // The rest of a line: the number of a check that did not hold.
-    pub(crate) fn put_refusal(&mut self, rt: &(impl Print + Eprint), error: MatError) {
-        self.put_part(rt, LinePart::Refused(error.failure().number));
+    pub(crate) fn put_refusal(&mut self, error: MatError) {
+        self.put_part(LinePart::Refused(error.failure().number));
     }
 
     // Puts a chunk of a name, as a line shows it: three bytes show a byte, so that it is never refused.
     // The steps of put_part: a common one would take the write as a closure and its promise as a parameter, for four lines.
-    fn put_chunk(&mut self, rt: &(impl Print + Eprint), chunk: &[u8])
+    fn put_chunk(&mut self, chunk: &[u8])
         requires { length chunk.now ≤ 1365 }
         ensures { Adds (escaped chunk.now) self.old.out.now self.old.used self.new.out.now self.new.used }
     {
-        self.make_room(rt);
+        self.make_room();
         let used = self.used;
         let n = write_escaped(chunk, &mut self.out[used..]).unwrap_or(0);
         self.used += n;
     }
 
     // A name between quotes: its chunks, all of them if no write fails.
-    pub(crate) fn put_name(&mut self, rt: &(impl Print + Eprint), name: &[u8]) {
-        self.put_part(rt, LinePart::Quote);
+    pub(crate) fn put_name(&mut self, name: &[u8]) {
+        self.put_part(LinePart::Quote);
         for chunk in name.chunks(CHUNK) {
             if self.failed {
                 break;
             }
-            self.put_chunk(rt, chunk);
+            self.put_chunk(chunk);
         }
-        self.put_part(rt, LinePart::Quote);
+        self.put_part(LinePart::Quote);
     }
 }

@@ -9,17 +9,16 @@ use borrow.Author.Tests.{lt-ltb, leb-true}
 use lib.Dec.{leb, eqb}
 use lib.ListN.{length, take, drop, length-take, get_or}
 use lib.Seq.{slice, length-slice}
-use Rattle.std.specs.Option.{unwrap_or}
-use Rattle.std.specs.Prelude.{IsErr, Option, Result as Reply}
+use Rattle.std.specs.Option.{UnwrapsOrElse}
+use Rattle.std.specs.Prelude.{IsErr, Option, Some, Result as Reply}
 use Rattle.std.specs.Result.{IsErrAnd}
 use Rattle.std.proofs.lemmas.List.{drop-take}
 use Rattle.text.specs.Errors.{failure_of}
-use Rattle.text.specs.Replies.{lossy_length}
-use Rattle.text.specs.Result.{Result, ok, error, check_each, overwritten}
+use Rattle.text.specs.Replies.{lossy_length, lossy_size}
+use Rattle.text.specs.Result.{Result, ok, error, check_each}
 use Rattle.text.specs.Utf8.{lossy}
 use Rattle.text.specs.declared.error.MatError.{MatError}
 use Rattle.text.specs.declared.utf8.LossySize.{LossySize}
-use Rattle.text.proofs.BufferLaws.{length_over}
 use Rattle.text.proofs.ReplyLaws.{handed_on}
 use Rattle.text.proofs.ResultLaws.{same_value, check_passed, check_is, seq_passed, bind_passed}
 use Rattle.text.proofs.TestLaws.{either}
@@ -30,7 +29,7 @@ use Rattle.reader.specs.Names.{ShownText, pieces, heap_of}
 use Rattle.reader.specs.Stages.Names.{HasName, HasPiece, FirstPiece, IsSize}
 use Rattle.reader.specs.Opening.{declared_names, offset, is_within, is_ordered, piece_count, wrapper_of, check_regions, layout, empty_wrapper, opened}
 use Rattle.reader.specs.Stages.Opening.{Ordered, Opens}
-use Rattle.reader.specs.Queries.{check_name, into_text, own_bytes}
+use Rattle.reader.specs.Queries.{check_name, own_bytes}
 use Rattle.reader.specs.Replies.{WritesText}
 use Rattle.reader.specs.declared.file_wrapper.FileWrapper.{FileWrapper}
 use Rattle.reader.proofs.blocks.Laws.{blocks_end}
@@ -119,23 +118,14 @@ refused m text r e p w = rw w (record { reply = handed_on r e p; buffer = refl }
 pub text_by : {m k : Result ShownText} → m ≡ k → {text text' : List ℕ} {r : Reply LossySize MatError} → WritesText k text r text' → WritesText m text r text'
 text_by e t = rw e t
 
-pub shown_size : (s : List ℕ) → length s ≤ 16777216 → {x : Option LossySize} → x ≡ lossy_length s → (d : LossySize) {n : LossySize} → n ≡ unwrap_or x d → IsSize s n
+pub shown_size : (s : List ℕ) → length s ≤ 16777216 → {x : Option LossySize} → x ≡ lossy_length s → (P : LossySize → Type 0) {n : LossySize} → UnwrapsOrElse x P n → IsSize s n
 unfolding lossy_length
-shown_size s few l d e =
+shown_size s few l p {n} e =
     let most : length (lossy s) ≤ 50331648 = omega (arith, lossy_le s) in
     let fits = lt-ltb (length (lossy s)) (2 ^ 64) (omega (arith, most)) in
-    rw (e, l) (simp fits (record { bytes = refl; most = most; replaced = refl; few = omega (arith, replaced_le s) }))
-
--- a call that writes a text keeps the buffer's length
-same_by : (m : Result ShownText) (text text' : List ℕ) → text' ≡ overwritten (λ t. t.text) (into_text m (length text)) text → length text' ≡ length text
-same_by (error e) text text' w = ap length w
-same_by (ok t) text text' w =
-    either (leb (length t.text) (length text))
-    (λ h. ap length (simp h at w) ∙ length_over t.text text (leb-true (length t.text) (length text) h))
-    (λ h. ap length (simp h at w))
-
-pub text_same : {m : Result ShownText} {text text' : List ℕ} {r : Reply LossySize MatError} → WritesText m text r text' → length text' ≡ length text
-text_same {m} {text} {text'} w = same_by m text text' w.buffer
+    let some : lossy_length s ≡ Some (lossy_size s) = simp fits refl in
+    let is : n ≡ lossy_size s = rw (l ∙ some) at e in
+    rw is (record { bytes = refl; most = most; replaced = refl; few = omega (arith, replaced_le s) })
 
 -- ---- a name
 

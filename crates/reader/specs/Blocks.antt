@@ -18,7 +18,7 @@ unfoldable pub block_at : ℕ → List ℕ → ℕ → ℕ → ℕ
 block_at size b i zero = i
 block_at size b i (suc k) = next_block size b (block_at size b i k)
 
--- 7: the number of blocks from i up to e, n of them before; the recursion counts down what is left, which no law outside proofs/BlockLaws.antt
+-- 7: the number of blocks from i up to e, n of them before; the recursion counts down what is left, which no law outside proofs/blocks/Laws.antt
 -- sees
 unfoldable pub blocks_count : ℕ → ℕ → List ℕ → ℕ → ℕ → ℕ → Result ℕ
 blocks_count zero size b i e n = ok n

@@ -1,6 +1,6 @@
 -- A name, or a placeholder for an empty one, as a part of a lent buffer (document 02, P1).
 -- Assumes nothing.
-use Rattle.std.specs.Prelude.{ℕ, ◌+◌, ◌≡◌, cond, List, eqb, length, take, drop, get_or}
+use Rattle.std.specs.Prelude.{ℕ, ◌+◌, ◌≡◌, cond, List, eqb, length, take, drop, get_or, codes}
 use Rattle.std.specs.Borrow.{Bor}
 use Rattle.text.specs.Result.{Result, ok, error, or_error, ◌>>◌, ◌>>=◌}
 use Rattle.text.specs.Utf8.{scalars8}
@@ -56,3 +56,8 @@ abbrev pub IsLabel : Bor (List ℕ) → Bor (List ℕ) → ℕ → Bor (List ℕ
 IsLabel blob placeholder i r =
     let p = part_of (label_of blob.now placeholder.now i) in
     IsPart p.start p.length (buffer_of p.source blob placeholder) r
+
+-- a buffer as it is printed
+abbrev pub source_text : Source → List ℕ
+source_text source.Blob = codes "blob"
+source_text source.Placeholder = codes "placeholder"

@@ -1,9 +1,10 @@
 // The cell store: check 13 for the directory of its cells, and checks 14 and 15 for one of them.
-ghost use Rattle.std.specs.Prelude.{◌≡◌, ◌*◌, ◌≤◌, length, IfOk};
+ghost use Rattle.std.specs.Prelude.{◌≡◌, ◌/◌, ◌<◌, length, IfOk};
 ghost use Rattle.text.specs.Replies.{outcome};
 ghost use Rattle.std.proofs.Props.{props};
 ghost use Rattle.text.specs.Result.{ok, check_each, map_result};
-ghost use Rattle.reader.specs.Cells.{lies_in, is_cell, check_directory, cell_at, cell_of};
+ghost use Rattle.writer.specs.Spans.{offset_at, length_at};
+ghost use Rattle.reader.specs.Cells.{lies_in, is_cell, check_directory, cell_at, cell_count, cell_of};
 
 use text::convert::to_usize;
 use text::error::MatError;
@@ -25,15 +26,14 @@ fn follows(end: usize, offset: usize, len: usize, words: usize) -> bool
     len <= words - offset
 }
 
-// Check 13 for each of n pairs: end is the end of the pair before.
-fn check_cells(directory: &[u64], n: usize, words: usize) -> Result<(), MatError>
-    requires { 2 * n ≤ length directory.now }
-    ensures { outcome result ≡ check_each 13 (is_cell directory.now words) 0 n }
+// Check 13 for each pair: end is the end of the pair before.
+fn check_cells(directory: &[u64], words: usize) -> Result<(), MatError>
+    ensures { outcome result ≡ check_each 13 (is_cell directory.now words) 0 (cell_count directory.now) }
 {
     let mut end: usize = 0;
-    for i in 0..n {
-        let offset = to_usize(directory[2 * i]);
-        let len = to_usize(directory[2 * i + 1]);
+    for (i, pair) in directory.as_chunks::<2>().0.iter().enumerate() {
+        let offset = to_usize(pair[0]);
+        let len = to_usize(pair[1]);
         if !follows(end, offset, len, words) {
             return Err(MatError::InvalidDirectory(i as u64));
         }
@@ -57,11 +57,11 @@ pub fn check_directory(directory: &[u64], kinds: &[u8], words: usize) -> Result<
     if kinds.len() != len / 2 {
         return Err(MatError::InvalidDirectory(len as u64));
     }
-    check_cells(directory, len / 2, words)
+    check_cells(directory, words)
 }
 
 // A cell store whose directory passed check 13.
-// Directory and kinds stay two lists, the first of flat pairs, as document 01 has them and C lends them.
+// Directory and kinds stay two lists, the first of flat pairs, as document 01 has them and C lends them: it is read by pairs here.
 // Kind 0 is a payload. The kinds stay bytes, as C lends them: any other number is some other cell.
 #[derive(Clone, Copy)]
 pub(crate) struct Cells<'a> {
@@ -92,6 +92,17 @@ impl<'a> Cells<'a> {
         })
     }
 
+    // The offset and the length of entry j. writer's Strings has such a call too, which asks that the pair is there, and so is not public.
+    #[tactic(auto, using(writer::proofs::SpanLaws::pair_offset, writer::proofs::SpanLaws::pair_length))]
+    fn span(self, j: usize) -> (usize, usize)
+        requires { j < length self.directory.now / 2 }
+        ensures { let d = self.entry.directory.now in
+            (result.0 ≡ offset_at d j) × (result.1 ≡ length_at d j) }
+    {
+        let pair = self.directory.as_chunks::<2>().0[j];
+        (to_usize(pair[0]), to_usize(pair[1]))
+    }
+
     // The words of the cell of an entry of the directory: checks 14 and 15, with a place for both.
     #[tactic(auto, unfolding(crate::specs::Cells::cell_at))]
     pub(crate) fn cell_at(self, entry: u32, place: u32) -> Result<&'a [u64], MatError>
@@ -104,8 +115,7 @@ impl<'a> Cells<'a> {
         if self.kinds[j] != 0 {
             return Err(MatError::UnexpectedCellKind(u64::from(place)));
         }
-        let start = to_usize(self.directory[2 * j]);
-        let len = to_usize(self.directory[2 * j + 1]);
+        let (start, len) = self.span(j);
         let end = start + len;
         Ok(&self.words[start..end])
     }

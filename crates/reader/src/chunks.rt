@@ -9,6 +9,9 @@ use crate::file_wrapper::{HEADER, Metadata};
 pub(crate) const CHUNK: usize = 4096;
 
 // The value of a name, whether it says more than that of most names, and where the next name begins.
+// any is told and not found by `==`: the usual value is a ghost, for which a constant and a comparison with its contract would be two members
+// more. next is a byte and no rest as a slice: after a last name that no zero byte ends it lies past the heap, and an empty rest would be one
+// more name, an empty one.
 #[derive(Clone, Copy)]
 pub(crate) struct Looked<T> {
     pub(crate) value: T,
@@ -55,7 +58,7 @@ impl Chunk {
     }
 }
 
-// The walk of a blob's names from the first on: the names below name have been looked at, and name begins at start.
+// The walk of a blob's names from the first on: the names below name have been looked at, and name begins at start, a byte as in Looked.
 #[derive(Clone, Copy)]
 pub(crate) struct NameWalk<'a> {
     metadata: Metadata<'a>,
@@ -77,7 +80,7 @@ impl<'a> NameWalk<'a> {
         }
     }
 
-    // Looks at a chunk of names, and goes on to the name after them.
+    // Looks at a chunk of names, and goes on to the name after them. That there is one is the test of the callers' loops.
     pub(crate) fn next_chunk<L: Look>(&mut self, look: L, table: &mut [L::Value; CHUNK]) -> Chunk
         requires { self.old.name ≤ self.old.metadata.w.names }
         ensures same { self.new.metadata ≡ self.old.metadata }

@@ -47,6 +47,7 @@ fn put_id(cells: Cells, id: u32, text: &mut [u8], spans: &mut [u64], at: Positio
 {
     match cells.cell_of(id) {
         Ok(payload) => put_payload(payload, text, spans, at),
+        // It was measured, as FitsAt says.
         Err(_) => at,
     }
 }
@@ -58,7 +59,7 @@ fn put_ids(cells: Cells, ids: &[u32], text: &mut [u8], spans: &mut [u64]) -> Pos
     ensures { let strings = of_cells ids_strings cells.entry ids.now in
         WritesAt strings origin text.old spans.old result text.new spans.new }
 {
-    let mut at = Position { byte: 0, string: 0 };
+    let mut at = Position::default();
     for id in ids {
         at = put_id(cells, *id, text, spans, at);
     }

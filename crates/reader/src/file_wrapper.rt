@@ -42,7 +42,8 @@ impl<'a> Header<'a> {
         read_u32(self.blob, 8 + 4 * k) as usize
     }
 
-    // Check 3.
+    // Check 3. This and check 5 go by index, which is their place: a pair of `windows` is told by the index of its first. They differ in range,
+    // test and kind, all that a common function would be left with.
     fn check_within(self) -> Result<(), MatError>
         ensures { outcome result ≡ check_each 3 (is_within self.entry.blob.now) 0 8 }
     {

@@ -49,7 +49,7 @@ impl<'a> Look for Wanted<'a> {
 impl<'a> Triples<'a> {
     // The first of limit triples whose name is a wanted one of the chunk, else limit. A search of the triples for each name by itself would
     // take names times triples where many names are the same.
-    // Limit and no Option: what is answered is the limit of the next chunk, so that what `find` answers would be turned into it at once.
+    // Limit and no Option: what is answered is the limit of the next chunk.
     #[tactic(auto, unfolding(crate::specs::Stages::Find::first_of, crate::specs::Stages::Find::first_index, crate::specs::Objects::triples_from))]
     fn first_in(self, limit: usize, flags: &[bool; CHUNK], chunk: Chunk) -> usize
         requires { limit ≤ self.count }
@@ -59,12 +59,9 @@ impl<'a> Triples<'a> {
         if !chunk.any {
             return limit;
         }
-        for k in 0..limit {
-            if chunk.get_or(flags, self.get(k).name_idx, false) {
-                return k;
-            }
-        }
-        limit
+        (0..limit)
+            .find(|&k| chunk.get_or(flags, self.get(k).name_idx, false))
+            .unwrap_or(limit)
     }
 
     // The position of the first triple whose name is stored as wanted. The name heap is walked once.

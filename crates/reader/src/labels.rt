@@ -5,6 +5,7 @@ ghost use Rattle.reader.specs.Labels.{placeholder_part, label_of, IsLabel};
 
 use crate::file_wrapper::Metadata;
 use crate::names::check_name;
+use std::fmt;
 use text::error::MatError;
 use text::utf8::terminated_length;
 
@@ -13,6 +14,21 @@ use text::utf8::terminated_length;
 pub enum Source {
     Blob,
     Placeholder,
+}
+
+// A buffer as the programs print it.
+impl fmt::Display for Source {
+    ghost use Rattle.std.specs.Prelude.{Some};
+    ghost use Rattle.reader.specs.Labels.{source_text};
+
+    ghost output = { λ s. Some (source_text s) };
+
+    fn fmt<W: fmt::Write>(&self, f: &mut fmt::Formatter<W>) -> fmt::Result {
+        match self {
+            Source::Blob => f.write_str("blob"),
+            Source::Placeholder => f.write_str("placeholder"),
+        }
+    }
 }
 
 // A part of a lent buffer: which buffer, its first byte there, and how many bytes.

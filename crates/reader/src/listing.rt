@@ -19,7 +19,7 @@ use text::error::MatError;
 // The block ids that were met last in each region, and whether one was below the one before it.
 // One walk checks each object and gathers this: is_sorted would take a walk more for each region.
 // Two fields by name: an array by Region takes 1.04 times the instructions of a listing.
-#[derive(Clone, Copy, Debug, PartialEq, Eq)]
+#[derive(Clone, Copy, Debug, Default, PartialEq, Eq)]
 struct Order {
     saveobj: u32,
     normalobj: u32,
@@ -49,11 +49,7 @@ fn met(order: Order, block: BlockId) -> Order {
 fn check_objects(metadata: Metadata) -> Result<bool, MatError>
     ensures { ChecksObjects metadata.entry.blob.now metadata.entry.w result }
 {
-    let mut order = Order {
-        saveobj: 0,
-        normalobj: 0,
-        falls: false,
-    };
+    let mut order = Order::default();
     for i in 1..metadata.w.records {
         let id = i as u32;
         let object = Object { metadata, id }.record();
@@ -63,7 +59,7 @@ fn check_objects(metadata: Metadata) -> Result<bool, MatError>
     Ok(order.falls)
 }
 
-// The entry of a region's first block.
+// The entry of a region's first block. No array by Region: the plan has a field for the one that is not 0.
 fn first_entry(plan: Plan, region: Region) -> usize
     ensures { result ≡ first_entry plan.entry region }
 {
@@ -238,6 +234,7 @@ pub fn list_objects(blob: &[u8], rows: &mut [ObjectRow]) -> Result<usize, MatErr
         entries: &entries,
     };
     let mut cursors = first_cursors(plan.metadata.w);
+    // By index: with iter_mut over rows[..count] the loop's invariant cannot name rows, and the return stayed open.
     for i in 0..listing.count {
         let step = index.next_object(cursors, i);
         rows[i] = step.row;
@@ -257,12 +254,7 @@ pub struct ObjectList {
 pub fn list_eight(blob: &[u8]) -> ObjectList
     ensures { WritesObjects blob.now blank_rows result.reply result.rows }
 {
-    let mut rows = [ObjectRow {
-        class_id: 0,
-        region: 0,
-        block_id: 0,
-        property_count: 0,
-    }; 8];
+    let mut rows = [ObjectRow::default(); 8];
     let reply = list_objects(blob, &mut rows);
     ObjectList { reply, rows }
 }

@@ -57,6 +57,7 @@ pub(crate) fn count_pieces(bytes: &[u8]) -> usize
 {
     // Not more than all bytes are zero, so every whole block is passed.
     let blocks = skip_blocks(bytes, bytes.len());
+    // A loop: with `filter` and `count` over these last bytes a query by name took 1.08 of the time.
     let mut last: usize = 0;
     for byte in blocks.rest {
         last += usize::from(*byte == 0);
@@ -65,7 +66,6 @@ pub(crate) fn count_pieces(bytes: &[u8]) -> usize
 }
 
 // The heap from piece index, from 1, on.
-// A `while`: the zero bytes end it, and not the index. A `for` would return from within and need an end that never comes.
 fn from_piece(heap: &[u8], index: usize) -> &[u8]
     requires { HasPiece heap.now index }
     ensures { pieces result.now ≡ drop (index - 1) (pieces heap.now) }
@@ -75,16 +75,11 @@ fn from_piece(heap: &[u8], index: usize) -> &[u8]
     }
     // The piece begins after zero byte index - 1, whose block is not passed.
     let blocks = skip_blocks(heap, index - 2);
-    let rest = blocks.rest;
-    let mut k = blocks.zeros + 1;
-    let mut i = 0;
-    while k < index {
-        if rest[i] == 0 {
-            k += 1;
-        }
-        i += 1;
+    let mut rest = blocks.rest;
+    for _ in blocks.zeros + 1..index {
+        rest = &rest[piece_end(rest, 0) + 1..];
     }
-    &rest[i..]
+    rest
 }
 
 // Where the first piece ends, none of whose first bytes up to from is zero: at the first zero byte, or at the end.
@@ -102,7 +97,8 @@ pub(crate) fn piece_end(rest: &[u8], from: usize) -> usize
 }
 
 // Where a piece ends, and whether its bytes are wanted.
-// The end as an index, and no rest as a slice: the walk over a chunk of names goes by where in the blob they begin.
+// The end as an index, and no rest as a slice: the last piece may end with the heap, and an empty rest would be one more piece, an empty one.
+// In the early exits a slice from n on would cost two instructions for each byte besides, since its end is kept beside it.
 #[derive(Clone, Copy, Debug, PartialEq, Eq)]
 pub(crate) struct Compared {
     pub(crate) equal: bool,
@@ -155,6 +151,8 @@ impl<'a> Metadata<'a> {
     }
 
     // The bytes of a name that is declared: none for index 0, else those of piece index.
+    // That it is declared is asked, and no struct of a checked index has it: check 11 is most often of triples, whose names are not read by
+    // their index. The bound on the length is a blob's, which its parts have.
     pub(crate) fn own_bytes(self, index: u32) -> &'a [u8]
         requires { index ≤ self.w.names }
         ensures { (result.now ≡ own_bytes self.entry.blob.now self.entry.w index) × (length result.now ≤ 16777216) }
@@ -194,12 +192,10 @@ pub(crate) fn write_shown(bytes: &[u8], text: &mut [u8]) -> Result<LossySize, Ma
 }
 
 // The size of bytes as they are shown: of a part of a blob it fits 64 bits.
+// A struct of bytes with that bound would be made for this one call by Replaced::look_at, and opened again by write_joined for put_lossy.
 pub(crate) fn shown_size(bytes: &[u8]) -> LossySize
     requires { length bytes.now ≤ 16777216 }
     ensures { IsSize bytes.now result }
 {
-    lossy_length(bytes).unwrap_or(LossySize {
-        bytes: 0,
-        replaced: 0,
-    })
+    lossy_length(bytes).unwrap_or_default()
 }

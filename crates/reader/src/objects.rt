@@ -14,7 +14,7 @@ use text::error::MatError;
 // An object: its class, the region of its property block (0 saved, 1 normal), the block's id there, and how many properties it has.
 // Four numbers, as C reads the row.
 #[repr(C)]
-#[derive(Clone, Copy, Debug, PartialEq, Eq)]
+#[derive(Clone, Copy, Debug, Default, PartialEq, Eq)]
 pub struct ObjectRow {
     pub class_id: u32,
     pub region: u32,
@@ -25,8 +25,8 @@ pub struct ObjectRow {
 // The two property regions of a blob.
 #[derive(Clone, Copy, Debug, PartialEq, Eq)]
 pub(crate) enum Region {
-    Saved,
-    Normal,
+    Saved = 0,
+    Normal = 1,
 }
 
 impl Region {
@@ -34,10 +34,7 @@ impl Region {
     fn number(self) -> u32
         ensures { result ≡ number_of self }
     {
-        match self {
-            Region::Saved => 0,
-            Region::Normal => 1,
-        }
+        self as u32
     }
 }
 

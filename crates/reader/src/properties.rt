@@ -103,8 +103,8 @@ impl<'a> Triples<'a> {
         requires { length rows.old ≡ self.count }
         ensures { rows.new ≡ map (row_of no_count) (named_triples self.entry) }
     {
-        for i in 0..self.count {
-            rows[i] = row_of(self.get(i));
+        for (i, row) in rows.iter_mut().enumerate() {
+            *row = row_of(self.get(i));
         }
     }
 

@@ -68,8 +68,8 @@ fn recount_rows(counts: &[u32; CHUNK], chunk: Chunk, rows: &mut [PropertyRow])
     if !chunk.any {
         return;
     }
-    for i in 0..rows.len() {
-        rows[i] = recount(rows[i], counts, chunk);
+    for row in rows.iter_mut() {
+        *row = recount(*row, counts, chunk);
     }
 }
 
@@ -80,7 +80,7 @@ fn is_sound(metadata: Metadata) -> bool
     if metadata.w.names == 0 {
         return true;
     }
-    validate(&metadata.blob[HEADER..metadata.w.offsets[0]]).is_ok()
+    validate(metadata.heap_at(HEADER)).is_ok()
 }
 
 // Puts the counts of their names into rows, which hold none. Names are sound as a rule, and then nothing is counted; else the heap is walked

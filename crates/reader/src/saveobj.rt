@@ -23,14 +23,17 @@ pub struct DecodedSize {
 
 // Where the next string goes: its first byte, and its index among the spans.
 // Text and spans are lent beside it, and are no fields of a writer: WritesAt is of both, as they were and as they are, and of the position
-// before and after, and each put of a writer would say the same of its fields.
-#[derive(Clone, Copy, Debug, PartialEq, Eq)]
+// before and after, and each put of a writer would say the same of its fields. FitsAt, which three ask, is of strings and of the room at one
+// call: a field would carry it for that call alone.
+#[derive(Clone, Copy, Debug, Default, PartialEq, Eq)]
 pub(crate) struct Position {
     pub(crate) byte: usize,
     pub(crate) string: usize,
 }
 
 // A payload that passed checks 22 to 26: the index of its first length, and the number of its strings. Their units begin after the lengths.
+// No slices of lengths and of units: the definitions of document 01's payloads go by the index in the whole of it, and so do those of
+// units.rt, where a slice of units would have its start added back in each promise.
 #[derive(Clone, Copy)]
 pub(crate) struct StringPayload<'a> {
     words: &'a [u64],
@@ -208,6 +211,7 @@ pub(crate) fn put_payload(
 {
     match StringPayload::parse(payload) {
         Ok(strings) => strings.put(text, spans, at),
+        // It was measured, as FitsAt says.
         Err(_) => at,
     }
 }
@@ -238,7 +242,7 @@ pub fn decode_string_saveobj(
 {
     let size = measure_saveobj(payload)?;
     check_outputs(size, text.len(), spans.len())?;
-    put_payload(payload, text, spans, Position { byte: 0, string: 0 });
+    put_payload(payload, text, spans, Position::default());
     Ok(size)
 }
 

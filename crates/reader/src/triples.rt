@@ -7,6 +7,7 @@ use crate::file_wrapper::Metadata;
 use crate::records::Triple;
 
 // The triples of an object of an opened blob: the byte of the first, and their number.
+// Bytes are named by their place, as in records.rt, and no slice of them is held: the names that they lead to lie elsewhere in the blob.
 #[derive(Clone, Copy)]
 pub(crate) struct Triples<'a> {
     pub(crate) metadata: Metadata<'a>,

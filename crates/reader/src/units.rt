@@ -6,7 +6,7 @@ ghost use Rattle.text.specs.Utf16.{pair_value, the_text};
 ghost use Rattle.reader.specs.Units.{unit_at, units_in};
 ghost use Rattle.reader.specs.Stages.Units.{is_packed, UnitsFit, TwoFit, ThreeFit, PairFits};
 
-// Unit k of the words from index first on.
+// Unit k of the words from index first on. Words and first by themselves, here and below: see StringPayload.
 #[tactic(auto, unfolding(crate::specs::Units::unit_at))]
 pub(crate) fn unit_at(words: &[u64], first: usize, k: usize) -> u16
     requires { first + k / 4 < length words.now }
@@ -32,8 +32,9 @@ pub(crate) fn is_pair(unit: u16, next: u16) -> bool
     (0xD800..=0xDBFF).contains(&unit) && (0xDC00..=0xDFFF).contains(&next)
 }
 
-// Writes the two bytes of a unit from 0x80 on and below 0x800 at the start of out, and returns how many they are. It and the two below stand
-// beside text's put_utf8 for speed: put_text knows the size of a unit already, and they stay in 16 bits.
+// Writes the two bytes of a unit from 0x80 on and below 0x800 at the start of out, and returns how many they are.
+// It and the two below have the sums of text's put_utf8, which asks for a scalar value that fits, and so is no public call. The public one,
+// put_scalar, would test size and room once more, which put_text and measuring did.
 fn put_two(unit: u16, out: &mut [u8]) -> usize
     requires { TwoFit unit (length out.old) }
     ensures { Puts out.old 0 (utf8 unit) result out.new }

@@ -5,7 +5,6 @@
 use printing::input::read_full;
 use reader::file_wrapper::FileWrapper;
 use reader::labels;
-use reader::labels::Source;
 use std::io;
 
 // A blob with no classes and no objects and three names: a sound one, an empty one, and one whose last character is cut off.
@@ -13,7 +12,6 @@ const SAMPLE: [u8; 60] =
     *b"\x04\0\0\0\x03\0\0\0\x3C\0\0\0\x3C\0\0\0\x3C\0\0\0\x3C\0\0\0\x3C\0\0\0\x3C\0\0\0\x3C\0\0\0\x3C\0\0\0Tankgeber\0\0Pegel \xE2\x84\0";
 
 // The buffer of a label, and the label.
-// A match and no Display, which would take a type of this program's own for one use.
 fn print_label<'a>(
     rt: &impl Print,
     blob: &'a [u8],
@@ -22,10 +20,7 @@ fn print_label<'a>(
 ) -> io::Result<()> {
     print!(rt; "label {index}")?;
     match labels::label_source(blob, placeholder, index) {
-        Ok(part) => match part.source {
-            Source::Blob => print!(rt; " blob ")?,
-            Source::Placeholder => print!(rt; " placeholder ")?,
-        },
+        Ok(part) => print!(rt; " {} ", part.source)?,
         Err(e) => print!(rt; " {e}")?,
     }
     rt.write_all(labels::label(blob, placeholder, index))?;
@@ -38,10 +33,10 @@ fn print_labels<'a>(
     placeholder: &'a [u8],
     names: u32,
 ) -> io::Result<()> {
-    for index in 0..names {
+    for index in 0..=names {
         print_label(rt, blob, placeholder, index)?;
     }
-    print_label(rt, blob, placeholder, names)
+    Ok(())
 }
 
 // Buffers of a fixed size, cut to what is read or written: there is no heap.

@@ -13,6 +13,7 @@ use reader::properties::{PropertyRow, properties};
 use reader::saveobj::{DecodedSize, decode_string_saveobj};
 use reader::string_objects::decode_string_object;
 use std::convert::AsSlice;
+use std::fmt::Display;
 use text::error::MatError;
 use text::utf8::{LossySize, write_lossy};
 use text::utf16::decode_utf16;
@@ -21,23 +22,35 @@ use writer::string_object::{build_string_filewrapper_metadata, encode_string_sav
 // The property rows that are lent.
 const ROWS: usize = 512;
 
-// Holds a call to the line that writes bytes to a buffer of zeros.
-pub fn says_bytes(
+// Holds a call to the line that writes to a buffer of zeros, and how what it wrote is shown.
+fn says_written<'a, T: Default + PartialEq + Drop, D: Display + Drop, F: FnOnce(&'a [T]) -> D>(
     fields: Fields<'_>,
     reply: Result<usize, MatError>,
-    buffer: &[u8],
-) -> Result<(), Fault> {
+    buffer: &'a [T],
+    show: F,
+) -> Result<(), Fault>
+    requires { F.IsAlwaysCallable show }
+{
     match reply {
         Ok(n) => {
-            let bytes = Bytes(written(buffer, n)?);
-            fields.says(format_args!("ok {bytes}"))
+            let shown = show(written(buffer, n)?);
+            fields.says(format_args!("ok {shown}"))
         }
         Err(e) => fields.refuses(e, is_blank(buffer)),
     }
 }
 
+// The same of one that writes bytes.
+pub fn says_bytes(
+    fields: Fields<'_>,
+    reply: Result<usize, MatError>,
+    buffer: &[u8],
+) -> Result<(), Fault> {
+    says_written(fields, reply, buffer, |bytes| Bytes(bytes))
+}
+
 // The same of one that writes rows.
-// Beside says_bytes for the space, which stands before bytes and in rows, and for another type with Display.
+// Beside says_written for the space, which stands before bytes and words and in rows.
 fn says_rows<T: AsSlice<u32> + Copy + Default + PartialEq>(
     fields: Fields<'_>,
     reply: Result<usize, MatError>,
@@ -53,6 +66,7 @@ fn says_rows<T: AsSlice<u32> + Copy + Default + PartialEq>(
 }
 
 // utf16 UNITS text-length
+// It, lossy and latin9's converted read and lend items of other types: a frame would take the three and the call, for three lines.
 pub fn utf16(mut fields: Fields<'_>) -> Result<(), Fault> {
     let (mut units, mut text) = (zeros(), zeros());
     let units = fields.units(&mut units)?;
@@ -73,13 +87,8 @@ pub fn write(mut fields: Fields<'_>) -> Result<(), Fault> {
     let (mut text, mut spans, mut dims, mut words) = (zeros(), zeros(), zeros(), zeros());
     let array = fields.array(&mut text, &mut spans, &mut dims)?;
     let words = fields.lent(&mut words)?;
-    match encode_string_saveobj_payload(array.dims, array.text, array.spans, words) {
-        Ok(n) => {
-            let words = Words(written(words, n)?);
-            fields.says(format_args!("ok {words}"))
-        }
-        Err(e) => fields.refuses(e, is_blank(words)),
-    }
+    let reply = encode_string_saveobj_payload(array.dims, array.text, array.spans, words);
+    says_written(fields, reply, words, |words| Words(words))
 }
 
 // build n blob-length

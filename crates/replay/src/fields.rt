@@ -13,6 +13,7 @@ use text::error::MatError;
 pub const LINE: usize = 4096;
 
 // Zeros. The `ensures` gives only the length, so that no goal has the zeros one by one.
+// printing's buffer does the same and is private there, and this program does not stand on printing.
 pub fn zeros<T: Copy + Default>() -> [T; LINE]
     ensures { 4096 ≡ length result }
 {
@@ -76,6 +77,8 @@ impl<'a> Fields<'a> {
     }
 
     // A number in base 10.
+    // This and the next that read a field say each which of list's readers does: a common frame would take it as a closure that lends the
+    // buffer on, for one line.
     pub fn number<T: TryFrom<usize>>(&mut self) -> Result<T, Fault>
     where
         T::Error: Drop,
@@ -167,7 +170,7 @@ impl<'a> Fields<'a> {
     pub fn says(self, answer: impl Display + Drop) -> Result<(), Fault> {
         let rest = self.rest.strip_prefix(b"= ").ok_or(Fault::Unreadable)?;
         let mut said = Said { rest };
-        write!(said, "{answer} #").ok().ok_or(Fault::Differs)
+        write!(said, "{answer} #").map_err(|_| Fault::Differs)
     }
 
     // The same of a refusal, which must leave what was lent as it was.

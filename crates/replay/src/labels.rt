@@ -1,6 +1,6 @@
 // The recorded labels. Both calls are made anew, the one that gives the label and the one that tells where it lies, and held to the line.
 use crate::fields::{Fields, zeros};
-use crate::render::{Buffer, Bytes, Fault};
+use crate::render::{Bytes, Fault};
 use reader::labels::{Part, label, label_source};
 
 // label BLOB PLACEHOLDER index. A refused label must be empty.
@@ -26,7 +26,6 @@ fn says_label(fields: Fields<'_>, label: &[u8], part: Part) -> Result<(), Fault>
     if label.len() != length {
         return Err(Fault::Differs);
     }
-    let buffer = Buffer(source);
     let bytes = Bytes(label);
-    fields.says(format_args!("ok {buffer} {start} {length} {bytes}"))
+    fields.says(format_args!("ok {source} {start} {length} {bytes}"))
 }

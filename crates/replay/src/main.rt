@@ -22,7 +22,7 @@ const READS: u32 = 1048576;
 const SHOWN: usize = 160;
 
 // How many lines record a call, and how many of them agree.
-#[derive(Clone, Copy)]
+#[derive(Clone, Copy, Default)]
 struct Tally {
     agreed: u64,
     seen: u64,
@@ -38,7 +38,7 @@ struct Tallies {
 impl Tallies {
     fn new() -> Tallies {
         Tallies {
-            calls: [Tally { agreed: 0, seen: 0 }; Call::COUNT],
+            calls: [Tally::default(); Call::COUNT],
             other: 0,
         }
     }
@@ -71,6 +71,7 @@ impl Tallies {
 }
 
 // The line that is read, of which `filled` bytes came: those that do not fit are dropped.
+// Fixed memory, so that the line is no vector; fields.rt's List counts none of those that do not fit.
 #[derive(Drop)]
 struct Replay {
     line: [u8; LINE],

@@ -1,5 +1,4 @@
 // What a line says, and answers as a line has them.
-use reader::labels::Source;
 use std::convert::AsSlice;
 use std::fmt::{self, Display, Formatter, Write};
 use text::latin9::code_point;
@@ -115,30 +114,16 @@ impl<T: AsSlice<u32>> Display for Rows<'_, T> {
 // Lines of the table of ISO 8859-15, their ends as a line has them.
 #[derive(Clone, Copy)]
 pub struct Table {
-    pub first: usize,
+    pub first: u8,
     pub last: u8,
 }
 
 impl Display for Table {
     fn fmt<W: Write>(&self, f: &mut Formatter<W>) -> fmt::Result {
-        for i in self.first..=usize::from(self.last) {
-            let byte = i as u8;
+        for byte in self.first..=self.last {
             let code = code_point(byte);
             write!(f, "{byte:02x} {code:04x}\\n")?;
         }
         Ok(())
-    }
-}
-
-// The buffer of a label.
-#[derive(Clone, Copy)]
-pub struct Buffer(pub Source);
-
-impl Display for Buffer {
-    fn fmt<W: Write>(&self, f: &mut Formatter<W>) -> fmt::Result {
-        f.write_str(match self.0 {
-            Source::Blob => "blob",
-            Source::Placeholder => "placeholder",
-        })
     }
 }

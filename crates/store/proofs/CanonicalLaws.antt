@@ -2,7 +2,7 @@
 -- Assumes nothing.
 use Prim.Native.Nat.{ℕ, zero, suc, ◌+◌, ◌*◌, ◌<◌}
 use mathlib.Core.Path.{◌≡◌, refl, sym, ap, ap₂, ◌∙◌}
-use mathlib.Core.Bool.{Bool, true, false, ◌&&◌}
+use mathlib.Core.Bool.{Bool, true, ◌&&◌}
 use mathlib.Core.List.{List, [], ◌∷◌, ◌++◌, map, flat_map}
 use mathlib.Core.Logic.{◌↔◌}
 use native.Mathlib.Numerals.{add-one}
@@ -11,6 +11,7 @@ use borrow.Author.Tests.{le-leb, eq-eqb, eqb-true}
 use lib.Dec.{eqb}
 use lib.ListN.{length, take, drop, replicate, length-take, length-drop, length-map, take-append-drop}
 use lib.Seq.{drop-drop, drop-cons, drop-length, take-length}
+use Rattle.std.specs.Cmp.{both_ways}
 use Rattle.std.specs.List.{list_all}
 use Rattle.text.specs.Buffer.{same}
 use Rattle.text.proofs.SameLaws.{same_is, same_refl}
@@ -25,11 +26,6 @@ use Rattle.reader.proofs.saveobj.Canonical.{canonical_is, canonical_accepted}
 use Rattle.store.specs.Store.{Store, store_of, serialize, cells, stored_arrays, every, same_store, is_canonical}
 use Rattle.store.specs.Stages.{cells_walk, CellsInside, CutChecked}
 use Rattle.store.proofs.StoreLaws.{AllAccepted, both, same_store_refl, stored_are, serialized_canonical}
-
-same_bool : (s t : Bool) → (s ≡ true → t ≡ true) → (t ≡ true → s ≡ true) → s ≡ t
-same_bool true t f g = sym (f refl)
-same_bool false true f g = g refl
-same_bool false false f g = refl
 
 pub store_path : {o o' b b' u u' : ℕ} {bs bs' ds ds' ks ks' ws ws' : List ℕ} → o ≡ o' → b ≡ b' → u ≡ u' → bs ≡ bs' → ds ≡ ds' → ks ≡ ks' → ws ≡ ws'
     → store_of o b u bs ds ks ws ≡ store_of o' b' u' bs' ds' ks' ws'
@@ -143,7 +139,7 @@ module _ (s : Store) (c : CutChecked s) where
   -- what the code looks at
   pub parts_are : is_canonical s ≡ (is_file_wrapper s.objects s.blob && (list_all (λ k. eqb k 0) s.kinds && cells_walk s.directory s.words 0 s.objects 0))
   unfolding by_parts is_file_wrapper
-  parts_are = same_bool (is_canonical s) by_parts canonical_parts parts_canonical ∙ rw (zeros s.kinds s.objects c.cut.kinds, le-leb s.objects 349522 c.few)
+  parts_are = both_ways (is_canonical s) by_parts canonical_parts parts_canonical ∙ rw (zeros s.kinds s.objects c.cut.kinds, le-leb s.objects 349522 c.few)
 
 -- ---- what check 33 means: there are accepted arrays whose serialization the store is, and they are those that its cells hold
 

@@ -13,7 +13,8 @@ use text::convert::to_usize;
 use text::error::MatError;
 use writer::string_object::build_string_filewrapper_metadata;
 
-// Writes pair n of a directory, and kind n. The pairs are flat numbers, as C lends them.
+// Writes pair n of a directory, and kind n. By index, since what as_chunks_mut lends is known by its length alone afterwards. By n and with
+// no parts: the directory has the pair from 2 * n on, and the kinds have the kind at n.
 fn put_entry(n: usize, offset: u64, len: u64, directory: &mut [u64], kinds: &mut [u8])
     requires { EntryFits n (length directory.old) (length kinds.old) }
     ensures { PutsEntry n offset len directory.old kinds.old directory.new kinds.new }

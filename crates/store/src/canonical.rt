@@ -14,7 +14,8 @@ use text::error::MatError;
 use writer::string_object::is_string_filewrapper_metadata;
 
 // A store that is only read.
-// The directory is flat pairs, as document 01 has it and C lends it: it is read by index here, and written so in append and replace.
+// The directory is flat pairs, as document 01 has it and C lends it. It is read by index: with as_chunks in are_cells_canonical, five goals of
+// the walk stayed open, which the check closes by itself for an index. Where it is written, append and replace say why.
 #[derive(Clone, Copy)]
 pub(crate) struct StoreRef<'a> {
     pub(crate) counts: Counts,

@@ -12,6 +12,7 @@ pub use writer::string_object::{BLOB_BASE, BLOB_STEP};
 
 // How many objects, bytes of the blob and words a store has.
 // They stand beside the buffers, which C lends with more room than is counted: there is no heap for vectors.
+#[repr(C)]
 #[derive(Clone, Copy, Debug, PartialEq, Eq)]
 pub struct Counts {
     pub objects: u64,

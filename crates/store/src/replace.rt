@@ -14,6 +14,7 @@ use text::convert::to_usize;
 use text::error::MatError;
 
 // Puts the payload of an array, of len words, in place of the old words from at on: moves the words after them, and clears those given up.
+// No parts of words: what lies up to used moves across at, and past used where the payload is longer than the old one.
 fn replace_words(
     used: usize,
     at: usize,
@@ -33,6 +34,8 @@ fn replace_words(
 
 // Adds new - old to the offset of each pair from first up to n. The cells stand end to end, so those after one whose length was old and
 // becomes new begin that much later or earlier.
+// By index, since what as_chunks_mut lends is known by its length alone afterwards. By first and n, and no part: what is promised, `shifted`,
+// goes by the index of a pair in the whole directory, and so in replace_pair.
 #[tactic(auto, using(crate::proofs::ShiftLaws::shifting))]
 fn shift_offsets(directory: &mut [u64], first: usize, n: usize, old: u64, new: u64)
     requires { Shiftable directory.old first n old new }

@@ -14,6 +14,7 @@ use Rattle.text.specs.declared.utf8.Step.{Step}
 use Rattle.text.specs.declared.utf8.Step.TheVariants.{Scalar, IllFormed, End}
 use Rattle.text.specs.Utf8.{sequence_length, matched, whole_at, next_at, step_at, value_at, Part, sequence, ill_formed, before, parts_count, parts_from, scalars_of}
 use Rattle.text.proofs.StepLaws.{has_at}
+use Rattle.text.proofs.TestLaws.{clash}
 
 -- ---- a step goes on, and stays within s
 
@@ -36,17 +37,17 @@ next_within s i h =
 
 scalar_by : (a w : Bool) (v n v' n' : ℕ) → cond a (cond w (Scalar v n) (IllFormed n)) End ≡ Scalar v' n' → (a ≡ true) × (w ≡ true) × (v' ≡ v) × (n' ≡ n)
 scalar_by true true v n v' n' e = (refl, refl, cc, cc)
-scalar_by true false v n v' n' e = let z : ◌≡◌ {A = ℕ} 0 1 = cc in absurd (omega arith)
-scalar_by false w v n v' n' e = let z : ◌≡◌ {A = ℕ} 0 1 = cc in absurd (omega arith)
+scalar_by true false v n v' n' e = clash cc
+scalar_by false w v n v' n' e = clash cc
 
 ill_formed_by : (a w : Bool) (v n n' : ℕ) → cond a (cond w (Scalar v n) (IllFormed n)) End ≡ IllFormed n' → (a ≡ true) × (w ≡ false) × (n' ≡ n)
-ill_formed_by true true v n n' e = let z : ◌≡◌ {A = ℕ} 0 1 = cc in absurd (omega arith)
+ill_formed_by true true v n n' e = clash cc
 ill_formed_by true false v n n' e = (refl, refl, cc)
-ill_formed_by false w v n n' e = let z : ◌≡◌ {A = ℕ} 0 1 = cc in absurd (omega arith)
+ill_formed_by false w v n n' e = clash cc
 
 end_by : (a w : Bool) (v n : ℕ) → cond a (cond w (Scalar v n) (IllFormed n)) End ≡ End → a ≡ false
-end_by true true v n e = let z : ◌≡◌ {A = ℕ} 0 1 = cc in absurd (omega arith)
-end_by true false v n e = let z : ◌≡◌ {A = ℕ} 0 1 = cc in absurd (omega arith)
+end_by true true v n e = clash cc
+end_by true false v n e = clash cc
 end_by false w v n e = refl
 
 -- a step that found something goes on, within s

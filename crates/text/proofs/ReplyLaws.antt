@@ -3,7 +3,6 @@
 use mathlib.Core.Path.{◌≡◌, refl, ◌∙◌, sym, ap}
 use mathlib.Core.List.{List}
 use Prim.Native.Nat.{ℕ}
-use native.Mathlib.Omega.{arith}
 use lib.ListN.{length}
 use Rattle.std.specs.Prelude.{IsErr, Result as Reply}
 use Rattle.std.specs.Result.{IsErrAnd}
@@ -14,6 +13,7 @@ use Rattle.text.specs.Result.{Result, ok, error, map_result, overwritten}
 use Rattle.text.specs.declared.error.Failure.{Failure}
 use Rattle.text.specs.declared.error.MatError.{MatError}
 use Rattle.text.proofs.ResultLaws.{same_value}
+use Rattle.text.proofs.TestLaws.{clash}
 
 -- a call that comes to k
 pub writes : {A : Type 0} (m : ℕ → Result (List A)) (out : List A) (k : Result (List A)) {r : Reply ℕ MatError} {out' : List A} → m (length out) ≡ k
@@ -41,11 +41,11 @@ module _ {A B : Type 0} (size : A → B) (k : Result A) where
     where
       by : (j : Result A) → k ≡ j → map_result size j ≡ ok n → (a : A) × ((k ≡ ok a) × (size a ≡ n))
       by (ok a) q z = (a, (q, same_value z))
-      by (error f) q z = let c : ◌≡◌ {A = ℕ} 0 1 = cc in absurd (omega arith)
+      by (error f) q z = clash cc
 
   pub told_error : {f : Failure} → error f ≡ map_result size k → k ≡ error f
   told_error {f} e = by k refl (sym e)
     where
       by : (j : Result A) → k ≡ j → map_result size j ≡ error f → k ≡ error f
-      by (ok a) q z = let c : ◌≡◌ {A = ℕ} 0 1 = cc in absurd (omega arith)
+      by (ok a) q z = clash cc
       by (error h) q z = let s : h ≡ f = cc in q ∙ ap error s

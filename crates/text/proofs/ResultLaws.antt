@@ -7,7 +7,7 @@ use native.Mathlib.Numerals.{add-one}
 use native.Mathlib.Omega.{arith}
 use Rattle.text.specs.Result.{Result, ok, error, or_error, check, check_each, check_count, fold_count, fold_range, ◌>>◌, ◌>>=◌}
 use Rattle.text.specs.declared.error.Failure.{Failure}
-use Rattle.text.proofs.TestLaws.{equal_or}
+use Rattle.text.proofs.TestLaws.{clash, equal_or}
 
 pub same_value : {A : Type 0} {x y : A} → ok x ≡ ok y → x ≡ y
 same_value {A} {x} {y} e = cc
@@ -15,27 +15,19 @@ same_value {A} {x} {y} e = cc
 -- checks that all hold
 pub check_passed : (q : ℕ) (t : Bool) (p : ℕ) {A : Type 0} (m : Result A) {a : A} → (check q t p >> m) ≡ ok a → (t ≡ true) × (m ≡ ok a)
 check_passed q true p m e = (refl, e)
-check_passed q false p m {a} e =
-    let z : ◌≡◌ {A = ℕ} 0 1 = cc in
-    absurd (omega arith)
+check_passed q false p m {a} e = clash cc
 
 pub seq_passed : {A B : Type 0} (m : Result A) (k : Result B) {b : B} → (m >> k) ≡ ok b → (a : A) × ((m ≡ ok a) × (k ≡ ok b))
 seq_passed (ok a) k e = (a, (refl, e))
-seq_passed (error n) k {b} e =
-    let z : ◌≡◌ {A = ℕ} 0 1 = cc in
-    absurd (omega arith)
+seq_passed (error n) k {b} e = clash cc
 
 pub bind_passed : {A B : Type 0} (m : Result A) (f : A → Result B) {b : B} → (m >>= f) ≡ ok b → (a : A) × ((m ≡ ok a) × (f a ≡ ok b))
 bind_passed (ok a) f e = (a, (refl, e))
-bind_passed (error n) f {b} e =
-    let z : ◌≡◌ {A = ℕ} 0 1 = cc in
-    absurd (omega arith)
+bind_passed (error n) f {b} e = clash cc
 
 pub or_error_passed : {A : Type 0} (f : Failure) (m : Option A) {a : A} → or_error f m ≡ ok a → m ≡ Some a
 or_error_passed f (Some x) {a} e = ap Some (same_value e)
-or_error_passed f None e =
-    let z : ◌≡◌ {A = ℕ} 0 1 = cc in
-    absurd (omega arith)
+or_error_passed f None e = clash cc
 
 check_count_passed : (q : ℕ) (holds : ℕ → Bool) (i n : ℕ) {u : Unit {0}} → check_count q holds i n ≡ ok u → (k : ℕ) → i ≤ k → k < i + n → holds k ≡ true
 unfolding check_count
@@ -109,9 +101,7 @@ fold_range_step f i n s e j l h = fold_count_step f i (n - i) s e j l (omega ari
 -- a check that holds
 pub check_is : (q : ℕ) (t : Bool) (p : ℕ) {u : Unit {0}} → check q t p ≡ ok u → t ≡ true
 check_is q true p e = refl
-check_is q false p {u} e =
-    let z : ◌≡◌ {A = ℕ} 0 1 = cc in
-    absurd (omega arith)
+check_is q false p {u} e = clash cc
 
 -- a check that holds at each index of a range
 count_holds : (q : ℕ) (holds : ℕ → Bool) (i k : ℕ) → ((j : ℕ) → i ≤ j → j < i + k → holds j ≡ true) → check_count q holds i k ≡ ok tt

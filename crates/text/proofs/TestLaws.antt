@@ -11,10 +11,12 @@ use lib.Dec.{T, leb, ltb, eqb, ltb→lt, eqb→eq}
 use lib.ListN.{get_or}
 use Rattle.text.specs.Unicode.{within}
 
+-- from two facts that `cc` finds to be at odds: `clash cc`
+pub clash {ℓ} : {P : Type ℓ} → ◌≡◌ {A = ℕ} 0 1 → P
+clash e = absurd (omega arith)
+
 pub not_both {ℓ} : {P : Type ℓ} {t : Bool} → t ≡ true → t ≡ false → P
-not_both {P} {t} e f =
-    let z : ◌≡◌ {A = ℕ} 0 1 = cc in
-    absurd (omega arith)
+not_both {P} {t} e f = clash cc
 
 pub and_is : (a b : Bool) → (a && b) ≡ true → (a ≡ true) × (b ≡ true)
 and_is true b e = (refl, e)

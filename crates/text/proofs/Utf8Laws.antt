@@ -17,7 +17,7 @@ use Rattle.text.specs.Utf8.{sequence_length, second_range, has_in, matched, whol
 use Rattle.text.proofs.LeadLaws.{Lead, lead_range, starts_byte, Second, second_is, step_1, step_2, step_3, step_4, Spells, spells_1, spells_2, spells_3, spells_4}
 use Rattle.text.proofs.PartLaws.{Reads, step_reads, step_breaks, parts_end, parts_scalar, parts_rule}
 use Rattle.text.proofs.ScalarLaws.{IsScalar, Scalars, gap_cases, gap_above, by_size, utf8_1, utf8_2, utf8_3, utf8_4}
-use Rattle.text.proofs.TestLaws.{and_is, within_is}
+use Rattle.text.proofs.TestLaws.{clash, and_is, within_is}
 
 -- ---- what was encoded is read back
 
@@ -260,10 +260,10 @@ took_size {s} {i} {v} {next} r =
 
 pub map_is : {A B : Type 0} (f : A → B) (m : Option A) {y : B} → option_map f m ≡ Some y → (x : A) × ((m ≡ Some x) × (y ≡ f x))
 map_is f (Some x) e = (x, (refl, cc))
-map_is f None {y} e = let z : ◌≡◌ {A = ℕ} 0 1 = cc in absurd (omega arith)
+map_is f None {y} e = clash cc
 
 pub not_some {ℓ} : {P : Type ℓ} {A : Type 0} {y : A} → None ≡ Some y → P
-not_some {P} {A} {y} e = let z : ◌≡◌ {A = ℕ} 0 1 = cc in absurd (omega arith)
+not_some {P} {A} {y} e = clash cc
 
 -- what is read was encoded
 pub record Spelled (s vs : List ℕ) : Type 0 where

@@ -29,6 +29,7 @@ fn point_in(points: &[u16], byte: u8) -> u32
 
 // Whether the byte with this number has another code point.
 // A match, here and in byte_of, and no search of the table, of which a function that names it has a copy made.
+#[tactic(auto, unfolding(crate::specs::Latin9::code_point, crate::specs::Latin9::point_in, crate::specs::Latin9::exceptions))]
 fn gave_way(value: u32) -> bool
     ensures { result ≡ not (eqb (code_point value) value) }
 {
@@ -36,6 +37,7 @@ fn gave_way(value: u32) -> bool
 }
 
 // A code point below 0x100 is that of the byte with its number or, where this byte has another one, of no byte.
+#[tactic(auto, using(crate::proofs::latin9::Export::bytes_of), unfolding(crate::specs::Latin9::byte_of, crate::specs::Latin9::byte_from, crate::specs::Latin9::code_point, crate::specs::Latin9::point_in, crate::specs::Latin9::exceptions))]
 fn byte_of(value: u32) -> Option<u8>
     ensures { result ≡ byte_of value }
 {
@@ -71,7 +73,8 @@ fn byte_at(text: &[u8], at: usize, size: usize) -> Option<u8>
 }
 
 // The number of bytes that a text is exported to, which is that of its characters, or the refusal by 30 or 36.
-// A `while`, here and in put_export, since a step is as long as its sequence.
+// A `while`, here and in put_export, since a step is as long as its sequence. whole_length is the step that this walk shares with those of
+// utf8.rt, as said there.
 fn export_length(text: &[u8]) -> Result<usize, MatError>
     ensures { outcome result ≡ map_result length (latin9_bytes text.now) }
 {
@@ -125,6 +128,7 @@ fn put_export(text: &[u8], out: &mut [u8])
         }
         let size = size_by(text[i]);
         let Some(byte) = byte_at(text, i, size) else {
+            // This cannot be: BytesFit says that the text is exported.
             return;
         };
         out[o] = byte;

@@ -17,17 +17,18 @@ pub struct Scalar {
 }
 
 // One step of decoding by the next unit and the one after it, if there is one: a surrogate that has no partner gives none.
+#[tactic(auto, unfolding(crate::specs::Utf16::unit_step))]
 pub fn unit_step(first: u16, second: Option<u16>) -> Option<Scalar>
     ensures { result ≡ unit_step first (unwrap_or second 0) (is_some second) }
 {
-    if first < 0xD800 || 0xDFFF < first {
+    if !matches!(first, 0xD800..=0xDFFF) {
         return Some(Scalar {
             value: u32::from(first),
             units: 1,
         });
     }
     let low = second?;
-    if 0xDBFF < first || low < 0xDC00 || 0xDFFF < low {
+    if !matches!(first, 0xD800..=0xDBFF) || !matches!(low, 0xDC00..=0xDFFF) {
         return None;
     }
     Some(Scalar {
@@ -76,6 +77,7 @@ fn put_text(units: &[u16], out: &mut [u8])
     let mut o: usize = 0;
     while i < units.len() {
         let Some(scalar) = step_at(units, i) else {
+            // This cannot be: TextFits says that the units have a text.
             return;
         };
         o = put_utf8(scalar.value, out, o);

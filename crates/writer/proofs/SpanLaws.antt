@@ -1,7 +1,7 @@
--- Check 30 for one string: the outcomes of `measure_string`, and what a string that passed is.
+-- Check 30 for one string: the outcomes of `Strings::measure_one`, and what a string that passed is.
 -- Assumes nothing.
 use Rattle.std.specs.Option.{unwrap_or}
-use Prim.Native.Nat.{ℕ, zero, suc, ◌+◌, ◌-◌, ◌≤◌, ◌<◌}
+use Prim.Native.Nat.{ℕ, zero, suc, ◌+◌, ◌-◌, ◌*◌, ◌≤◌, ◌<◌}
 use mathlib.Core.Path.{◌≡◌, refl, sym, ap, ◌∙◌}
 use mathlib.Core.Bool.{true}
 use mathlib.Core.List.{List, [], ◌∷◌, flat_map}
@@ -10,7 +10,9 @@ use Rattle.std.specs.Option.{option_map}
 use native.Mathlib.Numerals.{add-one}
 use native.Mathlib.Omega.{arith}
 use borrow.Author.Tests.{le-leb, lt-leb, leb-true}
+use Rattle.std.specs.Simd.{first_chunks}
 use lib.Dec.{leb}
+use lib.Seq.{get_or-take, get_or-drop}
 use lib.ListN.{length, get_or, take, drop, length-take, length-append}
 use Rattle.std.specs.Result.{result_ok}
 use Rattle.text.specs.Replies.{CountsUnits}
@@ -25,6 +27,27 @@ use Rattle.text.proofs.Utf8Laws.{map_is, not_some, spelled}
 use Rattle.writer.specs.Array.{string_units, all_units}
 use Rattle.writer.specs.Spans.{offset_at, length_at, end_at, string_at, strings_from, is_some, check_string}
 use Rattle.writer.specs.Stages.Payload.{MeasuresString}
+
+-- ---- pairs
+
+-- a number of pair i, where a list is read by pairs
+pub pair_number : (k i j : ℕ) (xs : List ℕ) → i < k → j < 2 → get_or (get_or (first_chunks 2 k xs) i []) j 0 ≡ get_or xs (2 * i + j) 0
+pair_number zero i j xs h l = absurd (omega arith)
+pair_number (suc k) zero j xs h l =
+    let e : 2 * zero + j ≡ j = omega arith in
+    get_or-take 2 xs j 0 l ∙ ap (λ (m : ℕ). get_or xs m 0) (sym e)
+pair_number (suc k) (suc i) j xs h l =
+    let e : 2 * suc i + j ≡ 2 + (2 * i + j) = omega arith in
+    pair_number k i j (drop 2 xs) (omega arith) l ∙ get_or-drop 2 xs (2 * i + j) 0 ∙ ap (λ (m : ℕ). get_or xs m 0) (sym e)
+
+module _ (xs : List ℕ) (k i : ℕ) {ps : List (List ℕ)} (e : ps ≡ first_chunks 2 k xs) (h : i < k) where
+  pub pair_offset : get_or (get_or ps i []) 0 0 ≡ offset_at xs i
+  pair_offset =
+      let z : 2 * i + 0 ≡ 2 * i = omega arith in
+      rw e (pair_number k i 0 xs h (omega arith)) ∙ ap (λ (m : ℕ). get_or xs m 0) z
+
+  pub pair_length : get_or (get_or ps i []) 1 0 ≡ length_at xs i
+  pair_length = rw e (pair_number k i 1 xs h (omega arith))
 
 -- ---- a value that is there
 

@@ -3,13 +3,13 @@ ghost use Rattle.std.specs.Prelude.{◌≡◌, ◌+◌, ◌*◌, ◌/◌, ◌<�
 ghost use Rattle.text.specs.Replies.{outcome};
 ghost use Rattle.writer.specs.Array.{is_shape};
 ghost use Rattle.writer.specs.Stages.Payload.{HasString, MeasuresString, measured_strings};
-ghost use Rattle.writer.specs.Spans.{string_at};
+ghost use Rattle.writer.specs.Spans.{offset_at, length_at, string_at};
 
 use text::convert::{checked_product, to_usize};
 use text::error::MatError;
 use text::utf8::count_units;
 
-// The end of a string's span, and its code units.
+// The end of a string's span, and its code units. The end is an index in the text: check 30 compares the next span's offset with it.
 #[derive(Clone, Copy, Debug, PartialEq, Eq)]
 pub(crate) struct StringSize {
     end: usize,
@@ -30,13 +30,24 @@ impl<'a> Strings<'a> {
         self.spans.len() / 2
     }
 
+    // The offset and the length of string i.
+    #[tactic(auto, using(crate::proofs::SpanLaws::pair_offset, crate::proofs::SpanLaws::pair_length))]
+    fn span(self, i: usize) -> (usize, usize)
+        requires { 2 * i + 1 < length self.spans.now }
+        ensures { let s = self.entry in
+            (result.0 ≡ offset_at s.spans.now i) × (result.1 ≡ length_at s.spans.now i) }
+    {
+        let span = self.spans.as_chunks::<2>().0[i];
+        (to_usize(span[0]), to_usize(span[1]))
+    }
+
     // String i.
     pub(crate) fn get(self, i: usize) -> &'a [u8]
         requires { HasString self.text.now self.spans.now i }
         ensures { result.now ≡ string_at self.entry.text.now self.entry.spans.now i }
     {
-        let start = to_usize(self.spans[2 * i]);
-        &self.text[start..start + to_usize(self.spans[2 * i + 1])]
+        let (start, len) = self.span(i);
+        &self.text[start..start + len]
     }
 
     // Check 30 for string i, where the span before it ends at end: its size where it holds.
@@ -44,8 +55,8 @@ impl<'a> Strings<'a> {
         requires { 2 * i + 1 < length self.spans.now }
         ensures { MeasuresString self.entry.text.now self.entry.spans.now i end result }
     {
-        let offset = to_usize(self.spans[2 * i]);
-        let last = offset.checked_add(to_usize(self.spans[2 * i + 1]))?;
+        let (offset, len) = self.span(i);
+        let last = offset.checked_add(len)?;
         if offset < end {
             return None;
         }

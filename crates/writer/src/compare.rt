@@ -6,7 +6,7 @@ ghost use Rattle.writer.specs.Stages.Compare.{stands_at};
 
 use crate::file_wrapper::{ObjectCount, object_record, saved_block};
 
-// Whether blob has words from byte at on.
+// Whether blob has words from byte at on, as put_words has it.
 fn has_words(blob: &[u8], at: usize, words: &[u32]) -> bool
     requires { at + 4 * length words.now ≤ length blob.now }
     ensures { result ≡ stands_at blob.now at (u32s words.now) }

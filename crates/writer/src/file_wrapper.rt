@@ -25,7 +25,8 @@ pub(crate) fn object_record(i: u32) -> [u32; 6]
     [1, 0, 0, i + 1, 0, i + 1]
 }
 
-// Writes words into blob from byte at on.
+// Writes words into blob from byte at on. No part of blob: what a call promises of a part would be turned into what it is of the blob at each
+// of the four calls, where the layout goes by the byte in all of it.
 fn put_words(blob: &mut [u8], at: usize, words: &[u32])
     requires { at + 4 * length words.now ≤ length blob.old }
     ensures { blob.new ≡ put blob.old at (u32s words.now) }

@@ -22,6 +22,7 @@ pub(crate) struct Packer<'a> {
     count: usize,
 }
 
+// That the words stay the same buffer (kept) is of the reference before and after, so that no field carries it; Pushed is of what is in it.
 impl Packer<'_> {
     // Pushes units that fall into one word.
     fn push<const N: usize>(&mut self, units: [u16; N])

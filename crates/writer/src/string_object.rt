@@ -37,7 +37,8 @@ pub fn create_string_object_metadata(object_id: u32) -> [u32; 6]
 }
 
 // Checks 30, 31 and 32 of writing an array, and the words of its payload. The array comes as C passes it: dimensions, a text, and spans in
-// the text, which are pairs of offset and length.
+// the text, which are pairs of offset and length. Three by themselves: a struct would be made for one call, and carry no fact, since nothing
+// is checked before. store's edits hand an array on from call to call, and have StringArray for it.
 #[tactic(auto, using(crate::proofs::checks::Measure::payload_odd))]
 pub fn measure_payload(dims: &[u64], text: &[u8], spans: &[u64]) -> Result<usize, MatError>
     ensures { outcome result ≡ measured_payload dims.now text.now spans.now }
@@ -109,8 +110,5 @@ pub fn build_string_filewrapper_metadata(
 pub fn is_string_filewrapper_metadata(object_count: u64, blob: &[u8]) -> bool
     ensures { result ≡ is_file_wrapper object_count blob.now }
 {
-    match ObjectCount::new(object_count) {
-        Ok(count) => count.has_file_wrapper(blob),
-        Err(_) => false,
-    }
+    ObjectCount::new(object_count).is_ok_and(|count| count.has_file_wrapper(blob))
 }

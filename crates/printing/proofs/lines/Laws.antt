@@ -18,7 +18,7 @@ use Rattle.text.specs.Result.{ok, need_place}
 use Rattle.text.specs.declared.error.MatError.{MatError}
 use Rattle.text.proofs.BufferLaws.{put_none, put_front, places_fits, places_front, part_put}
 use Rattle.text.proofs.ByteLaws.{stores}
-use Rattle.text.proofs.TestLaws.{cond_both}
+use Rattle.text.proofs.TestLaws.{clash, cond_both}
 use Rattle.writer.proofs.FileWrapperLaws.{puts_then, puts_length, mid_put}
 use Rattle.printing.specs.Lines.{is_plain, hex_digit, escape, escaped, digits, decimal, CountsDigits, numbered, line_text, WritesPart}
 use Rattle.std.specs.Result.{result_unwrap_or}
@@ -191,22 +191,22 @@ decimal_example = refl
 decimal_size : (n : ℕ) → 10 ≤ n → n < 2 ^ 64 → length (decimal n) ≡ length (decimal (n / 10)) + 1
 decimal_size n l h = ap length (decimal_more n l h) ∙ length-append (decimal (n / 10)) ((48 + n % 10) ∷ [])
 
--- n - 1 digits are counted, those of v are left
-pub record Counting (value n v : ℕ) : Type 0 where
-  pub small : v < 2 ^ 64
-  pub sum : n + length (decimal v) ≡ length (decimal value) + 1
-  pub few : length (decimal value) ≤ 20
+-- a number from 10 ^ k on and below the next power of ten has k + 1 digits
+ten_pos : (k : ℕ) → 0 < 10 ^ k
+ten_pos zero = omega arith
+ten_pos (suc k) = omega (arith, pow-suc 10 k, ten_pos k)
 
-module _ (value : ℕ) where
-  pub count_start : value < 2 ^ 32 → Counting value 1 value
-  count_start h = record { small = omega arith; sum = omega arith; few = decimal_most value }
+pub digits_counted : (k v : ℕ) → v < 2 ^ 64 → 10 ^ k ≤ v → v < 10 * 10 ^ k → length (decimal v) ≡ k + 1
+digits_counted zero v h l u = ap length (decimal_one v (omega arith))
+digits_counted (suc k) v h l u =
+    let shorter = digits_counted k (v / 10) (omega arith) (omega (arith, pow-suc 10 k)) (omega (arith, pow-suc 10 k)) in
+    omega (arith, decimal_size v (omega (arith, pow-suc 10 k, ten_pos k)) h)
 
-  module _ {n v : ℕ} (c : Counting value n v) where
-    pub count_turn : 10 ≤ v → Counting value (n + 1) (v / 10)
-    count_turn l = record { small = omega arith; sum = omega (arith, decimal_size v l c.small); few = c.few }
+pub digits_of : (v k : ℕ) → v < 2 ^ 64 → 10 ^ k ≤ v → v < 10 * 10 ^ k → CountsDigits v (k + 1)
+digits_of v k h l u = let d = digits_counted k v h l u in record { is = sym d; few = omega (arith, decimal_most v) }
 
-    pub count_last : v < 10 → CountsDigits value n
-    count_last h = let e = ap length (decimal_one v h) in record { is = omega arith; few = omega arith }
+pub digits_of_zero : (v : ℕ) → v ≡ 0 → CountsDigits v 1
+digits_of_zero v z = let d = ap length (decimal_one v (omega arith)) in record { is = sym d; few = omega arith }
 
 -- the n last digits of v
 unfoldable pub last_digits : ℕ → ℕ → List ℕ
@@ -288,14 +288,13 @@ text_puts t out h {r} w =
   where
     accepted : (x : Reply ℕ MatError) → outcome x ≡ ok (length t) → result_unwrap_or x 0 ≡ 0 + length t
     accepted (Ok n) e = let z : n ≡ length t = same_value e in omega arith
-    accepted (Err m) e = let z : ◌≡◌ {A = ℕ} 0 1 = cc in absurd (omega arith)
+    accepted (Err m) e = clash cc
 
 pub text_never : (t out : List ℕ) → length t ≤ length out → {e : MatError} {out' : List ℕ} → WritesPart t out (Err e) out' → {n : ℕ} → Puts out 0 t n out'
 text_never t out h {e} w =
     let f : leb (length t) (length out) ≡ true = le-leb (length t) (length out) h in
     let k : outcome {A = ℕ} (Err e) ≡ ok (length t) = simp f at w.reply in
-    let z : ◌≡◌ {A = ℕ} 0 1 = cc in
-    absurd (omega arith)
+    clash cc
 
 -- ---- the most bytes that a text needs
 

@@ -1,18 +1,20 @@
 -- Check 13: the loop of `check_cells`, and what a directory that passed says of its cells.
 -- Assumes nothing.
 use Prim.Native.Nat.{ℕ, ◌+◌, ◌*◌, ◌/◌, ◌%◌, ◌^◌, ◌≤◌, ◌<◌}
-use mathlib.Core.Path.{◌≡◌, sym, ◌∙◌}
+use mathlib.Core.Path.{◌≡◌, refl, sym, ◌∙◌}
 use mathlib.Core.Bool.{Bool, true, false, not}
-use mathlib.Core.List.{List}
+use mathlib.Core.List.{List, []}
 use native.Mathlib.Numerals.{add-one}
 use native.Mathlib.Omega.{arith}
 use borrow.Author.Tests.{leb-true, eqb-true, not-true, not-false}
 use lib.Dec.{leb, eqb}
-use lib.ListN.{length}
+use lib.ListN.{length, get_or}
+use Rattle.std.specs.Simd.{first_chunks}
 use Rattle.text.specs.Result.{ok, error, check_each}
 use Rattle.text.proofs.ResultLaws.{Checks, checks_turn, checks_stop, checks_last, check_passed, check_each_passed}
 use Rattle.text.proofs.TestLaws.{and_is}
 use Rattle.writer.specs.Spans.{offset_at, length_at, end_at}
+use Rattle.writer.proofs.SpanLaws.{pair_offset, pair_length}
 use Rattle.reader.specs.Cells.{end_before, lies_in, is_cell, cell_count, check_directory}
 
 module _ (end offset len words : ℕ) where
@@ -36,13 +38,20 @@ pub record CellsBefore (directory : List ℕ) (words n end i : ℕ) : Type 0 whe
 
 module _ (directory : List ℕ) (words n : ℕ) where
   module _ {end i : ℕ} (m : CellsBefore directory words n end i) where
-    module _ {offset len : ℕ} {r : Bool} (h : i < n) (e : r ≡ lies_in end offset len words) (o : offset ≡ offset_at directory i) (l : len ≡ length_at directory i) where
+    module _ {ps : List (List ℕ)} {offset len : ℕ} {r : Bool} (p : ps ≡ first_chunks 2 n directory) (h : i < n) (e : r ≡ lies_in end offset len words)
+        (o : offset ≡ get_or (get_or ps i []) 0 0) (l : len ≡ get_or (get_or ps i []) 1 0) where
+      offset_is : offset ≡ offset_at directory i
+      offset_is = o ∙ pair_offset directory n i p h
+
+      len_is : len ≡ length_at directory i
+      len_is = l ∙ pair_length directory n i p h
+
       is_cell_lem : is_cell directory words i ≡ r
-      is_cell_lem = rw (e, m.is, o, l)
+      is_cell_lem = rw (e, m.is, offset_is, len_is)
 
       pub cells_turn : not r ≡ false → CellsBefore directory words n (offset + len) (i + 1)
       cells_turn t = record {
-        is = rw (add-one i) (omega arith);
+        is = rw (add-one i, offset_is, len_is) refl;
         checks = checks_turn 13 (is_cell directory words) 0 n m.checks h (is_cell_lem ∙ not-false r t);
       }
 

@@ -8,6 +8,7 @@ use lib.ListN.{length, length-append}
 use Rattle.text.specs.Buffer.{put}
 use Rattle.text.specs.Result.{Result, ok, error, map_result, ◌>>=◌, values_of}
 use Rattle.text.proofs.BufferLaws.{put_more, length_put}
+use Rattle.text.proofs.TestLaws.{clash}
 use Rattle.writer.specs.Spans.{joined, spans_from}
 use Rattle.writer.proofs.LayoutLaws.{joined_append, length_joined, spans_append, length_spans}
 use Rattle.reader.specs.Replies.{size_of}
@@ -43,12 +44,8 @@ both_assoc (error f) y z = refl
 pub both_passed : (x y : Strings) {ss : List (List ℕ)} → both x y ≡ ok ss → (x ≡ ok (values_of x)) × (y ≡ ok (values_of y)) × (ss ≡ values_of x ++ values_of y)
 unfolding both
 both_passed (ok a) (ok b) e = (refl, refl, cc)
-both_passed (ok a) (error f) {ss} e =
-    let z : ◌≡◌ {A = ℕ} 0 1 = cc in
-    absurd (omega arith)
-both_passed (error f) y {ss} e =
-    let z : ◌≡◌ {A = ℕ} 0 1 = cc in
-    absurd (omega arith)
+both_passed (ok a) (error f) {ss} e = clash cc
+both_passed (error f) y {ss} e = clash cc
 
 pub both_counts : (x y : Strings) {s t : DecodedSize} → ok s ≡ map_result size_of x → ok t ≡ map_result size_of y
     → ok (record { bytes = s.bytes + t.bytes; strings = s.strings + t.strings }) ≡ map_result size_of (both x y)

@@ -15,6 +15,7 @@ use Rattle.text.specs.declared.error.MatError.{MatError}
 use Rattle.text.proofs.BufferLaws.{put_none}
 use Rattle.text.proofs.ReplyLaws.{told_error}
 use Rattle.text.proofs.ResultLaws.{bind_passed}
+use Rattle.text.proofs.TestLaws.{clash}
 use Rattle.writer.specs.Spans.{joined}
 use Rattle.writer.proofs.LayoutLaws.{length_joined, spans_none}
 use Rattle.reader.specs.Cells.{check_directory, cell_of}
@@ -55,8 +56,7 @@ module _ (directory kinds words : List ℕ) (id : ℕ) where
     id_never h =
         let k : id_strings directory kinds words id ≡ error f = rw (sym c) in
         let p = h.passed in
-        let z : ◌≡◌ {A = ℕ} 0 1 = cc in
-        absurd (omega arith)
+        clash cc
 
 -- ---- ids in turn
 

@@ -5,7 +5,7 @@ use mathlib.Core.Bool.{Bool, true, false, cond, ◌||◌}
 use mathlib.Core.List.{List, [], ◌∷◌}
 use Rattle.std.specs.Option.{unwrap_or}
 use Rattle.std.specs.Bool.{then_some}
-use Rattle.std.specs.Prelude.{Some, None}
+use Rattle.std.specs.Prelude.{Option, Some, None, MatchOption}
 use Prim.Native.Nat.{ℕ, zero, suc, ◌+◌, ◌-◌, ◌*◌, ◌≤◌, ◌<◌}
 use native.Mathlib.Omega.{arith}
 use borrow.Author.Tests.{lt-ltb, le-ltb, le-leb, lt-leb, leb-true, ltb-true, ltb-false}
@@ -16,7 +16,7 @@ use Rattle.text.specs.Buffer.{same}
 use Rattle.text.specs.Result.{ok}
 use Rattle.text.proofs.ResultLaws.{check_passed, seq_passed}
 use Rattle.text.proofs.TestLaws.{either, equal_or}
-use Rattle.reader.specs.Stages.Names.{heap_pieces, ComparesPiece}
+use Rattle.reader.specs.Stages.Names.{ComparesPiece}
 use Rattle.reader.specs.Objects.{triples_from, check_triple, check_triples, position, is_stored_as}
 use Rattle.reader.specs.Stages.Properties.{named_triples}
 use Rattle.reader.specs.Stages.Chunks.{is_in, value_in, ToNames, Looks, FillsTable}
@@ -31,7 +31,7 @@ use Rattle.reader.specs.declared.records.Triple.{Triple}
 use Rattle.reader.proofs.properties.Laws.{length_triples}
 use Rattle.reader.proofs.names.Comparison.{unnamed_equal, piece_equal}
 use Rattle.reader.proofs.names.Pieces.{stand_inside, stand_empty, stand_next}
-use Rattle.reader.proofs.chunks.Laws.{in_range, in_chunk}
+use Rattle.reader.proofs.chunks.Laws.{in_range, in_chunk, has_piece}
 
 -- ---- the first element for which a test holds
 
@@ -95,11 +95,11 @@ module _ (p : ℕ → Bool) (ts : Triples) where
       ∙ ap (first_index (λ t. q t.name_idx)) (take_triples ts.metadata.blob.now ts.at (first_of p ts n) n (of_le n))
 
 -- none of the first k triples passes the test
-pub record Passing (p : ℕ → Bool) (ts : Triples) (n k : ℕ) : Type 0 where
+record Passing (p : ℕ → Bool) (ts : Triples) (n k : ℕ) : Type 0 where
   pub rest : first_of p ts n ≡ k + first_index (λ (t : Triple). p t.name_idx) (triples_from ts.metadata.blob.now (ts.at + 12 * k) (n - k))
 
 module _ {p : ℕ → Bool} {ts : Triples} {n k : ℕ} (s : Passing p ts n k) {t : Triple} {v : Bool} where
-  pub pass_turn : k < n → t ≡ triple_at ts.metadata.blob.now (ts.at + 12 * k) → v ≡ p t.name_idx → v ≡ false → Passing p ts n (k + 1)
+  pass_turn : k < n → t ≡ triple_at ts.metadata.blob.now (ts.at + 12 * k) → v ≡ p t.name_idx → v ≡ false → Passing p ts n (k + 1)
   unfolding first_index triples_from
   pass_turn h r e y =
       let m : n - k ≡ suc (n - (k + 1)) = omega arith in
@@ -108,14 +108,39 @@ module _ {p : ℕ → Bool} {ts : Triples} {n k : ℕ} (s : Passing p ts n k) {t
       let f : first_of p ts n ≡ k + suc (first_index (λ (t : Triple). p t.name_idx) (triples_from ts.metadata.blob.now (ts.at + 12 * k + 12) (n - (k + 1)))) = simp (m, z) at s.rest in
       record { rest = rw a (omega (arith, f)) }
 
+-- no triple below i passes the test
+passed_to : {p : ℕ → Bool} {ts : Triples} {n : ℕ} (i : ℕ) → i ≤ n → ((k : ℕ) → k < i → p (triple_at ts.metadata.blob.now (ts.at + 12 * k)).name_idx ≡ false)
+    → Passing p ts n i
+unfolding first_of
+passed_to {p} {ts} {n} zero h none =
+    let z : ts.at + 12 * 0 ≡ ts.at = omega arith in
+    let y : n - 0 ≡ n = omega arith in
+    record { rest = rw (z, y) (omega arith) }
+passed_to {p} {ts} {n} (suc i) h none =
+    let z : i + 1 ≡ suc i = omega arith in
+    rw z at (pass_turn (passed_to {p = p} {ts = ts} {n = n} i (omega arith) (λ k l. none k (omega arith))) {t = triple_at ts.metadata.blob.now (ts.at + 12 * i)} (omega arith) refl refl (none i (omega arith)))
+
+-- what `find` over the indices says
+pub found_first : (p : ℕ → Bool) (ts : Triples) (n : ℕ) (r : Option ℕ)
+    → MatchOption r ((k : ℕ) → 0 ≤ k → k < n → p (triple_at ts.metadata.blob.now (ts.at + 12 * k)).name_idx ≡ false)
+    (λ i. (0 ≤ i) × (i < n) × (p (triple_at ts.metadata.blob.now (ts.at + 12 * i)).name_idx ≡ true)
+    × ((k : ℕ) → 0 ≤ k → k < i → p (triple_at ts.metadata.blob.now (ts.at + 12 * k)).name_idx ≡ false))
+    → unwrap_or r n ≡ first_of p ts n
+unfolding first_index triples_from
+found_first p ts n None h =
+    let s = passed_to {p = p} {ts = ts} {n = n} n (omega arith) (λ k l. h k (omega arith) l) in
+    let z : n - n ≡ 0 = omega arith in
+    omega (arith, rw z at s.rest)
+found_first p ts n (Some i) h =
+    let s = passed_to {p = p} {ts = ts} {n = n} i (omega (arith, h.1)) (λ k l. h.3 k (omega arith) l) in
+    let m : n - i ≡ suc (n - (i + 1)) = omega (arith, h.1) in
+    omega (arith, simp (m, h.2) at s.rest)
+
 -- ---- looking at a name
 
 module _ {m : Metadata} {x start : ℕ} (n : ToNames m x (x + 1) start) where
-  declared : x ≤ length (heap_pieces m.blob.now (get_or m.w.offsets 0 0))
-  declared = omega (arith, n.few, m.opens.names)
-
   pub look_inside : (x ≡ 0 → ⊥) → start ≤ get_or m.w.offsets 0 0
-  look_inside z = stand_inside n.heap z declared
+  look_inside z = stand_inside n.heap z (has_piece n)
 
   module _ (wanted : List ℕ) where
     abbrev told : List ℕ → Bool
@@ -129,9 +154,9 @@ module _ {m : Metadata} {x start : ℕ} (n : ToNames m x (x + 1) start) where
     look_piece z r k =
         let l : get_or m.w.offsets 0 0 ≤ length m.blob.now = omega (arith, m.opens) in
         record {
-          is = piece_equal m.blob.now (get_or m.w.offsets 0 0) wanted z declared l n.heap r k;
+          is = piece_equal m.blob.now (get_or m.w.offsets 0 0) wanted z (has_piece n) l n.heap r k;
           none = λ e. e;
-          heap = stand_next n.heap z declared l r k.piece;
+          heap = stand_next n.heap z (has_piece n) l r k.piece;
         }
 
 -- ---- a chunk of names

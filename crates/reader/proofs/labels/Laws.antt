@@ -17,7 +17,7 @@ use Rattle.text.specs.Utf8.{scalars8, before_zero}
 use Rattle.text.proofs.utf8.Lossy.{none_replaced, part_replaced, sound_replaced}
 use Rattle.text.proofs.ResultLaws.{same_value, or_error_passed, check_passed, seq_passed, bind_passed}
 use Rattle.text.proofs.utf8.Terminated.{terminated_is, terminated_not}
-use Rattle.text.proofs.TestLaws.{either}
+use Rattle.text.proofs.TestLaws.{clash, either}
 use Rattle.text.proofs.Utf8Laws.{lossy_same, scalars8_empty}
 use Rattle.reader.specs.Labels.{IsPart, IsLabel, placeholder_part, name_part, check_well_formed, label_of, buffer_of}
 use Rattle.reader.specs.Names.{pieces, heap_of, name_bytes, length_with_zeros, name_start, sound_text}
@@ -90,8 +90,7 @@ module _ (b placeholder : List ℕ) (w : FileWrapper) (i : ℕ) {p : Part} (is :
   in_blob s =
       either (eqb (length (own_bytes b w i)) 0)
       (λ t. let q : p ≡ placeholder_part (length placeholder) = is ∙ simp t in
-      let z : ◌≡◌ {A = ℕ} 0 1 = cc in
-      absurd (omega arith))
+      clash cc)
       (λ t. let q : p ≡ record { source = source.Blob; start = name_start b (get_or w.offsets 0 0) i; length = length (own_bytes b w i) } = is ∙ simp t in
       record { least = not_first b w i t; begins = ap (λ (x : Part). x.start) q; size = ap (λ (x : Part). x.length) q })
 
@@ -99,8 +98,7 @@ module _ (b placeholder : List ℕ) (w : FileWrapper) (i : ℕ) {p : Part} (is :
   in_placeholder s =
       either (eqb (length (own_bytes b w i)) 0) (λ t. is ∙ simp t)
       (λ t. let q : p ≡ record { source = source.Blob; start = name_start b (get_or w.offsets 0 0) i; length = length (own_bytes b w i) } = is ∙ simp t in
-      let z : ◌≡◌ {A = ℕ} 0 1 = cc in
-      absurd (omega arith))
+      clash cc)
 
 -- ---- what an accepted label says
 

@@ -13,7 +13,7 @@ use Rattle.std.specs.Prelude.{Ok, Err}
 use Rattle.text.specs.Result.{Result, ok, error, map_result, need_place, values_of, ◌>>◌, ◌>>=◌}
 use Rattle.text.specs.declared.error.MatError.TheVariants.{OutputTooShort}
 use Rattle.text.proofs.ResultLaws.{same_value, seq_passed, bind_passed}
-use Rattle.text.proofs.TestLaws.{either}
+use Rattle.text.proofs.TestLaws.{clash, either}
 use Rattle.reader.specs.Blocks.{block_end, block_at}
 use Rattle.reader.specs.Stages.Listing.{check_objects, all_objects, first_cursors, cursor_at, with_cursor, AreCursors, ToBlock, Listable, ListingFor, ToNext, NextObject}
 use Rattle.reader.specs.Objects.{region_start, region_blocks, check_block, object_row, record_row, object_of, objects_from, object_rows, no_row}
@@ -193,11 +193,8 @@ listed (ok xs) room {n} e =
     let z : n ≡ length xs = same_value q in
     (sym z, (omega (arith, z, leb-true (length xs) room t), simp t)))
     (λ t. let q : ok n ≡ error (record { number = 34; place = need_place (length xs) }) = simp t at e in
-    let z : ◌≡◌ {A = ℕ} 0 1 = cc in
-    absurd (omega arith))
-listed (error f) room e =
-    let z : ◌≡◌ {A = ℕ} 0 1 = cc in
-    absurd (omega arith)
+    clash cc)
+listed (error f) room e = clash cc
 
 -- the first i objects' rows are written, and the cursors are the blob's
 pub record Filling (m : Metadata) (rows : List ObjectRow) (i : ℕ) (cs : List Cursor) (rows' : List ObjectRow) : Type 0 where

@@ -4,12 +4,11 @@ use mathlib.Core.Path.{◌≡◌, refl, sym, ap, ◌∙◌}
 use mathlib.Core.Bool.{cond}
 use mathlib.Core.List.{List, [], ◌∷◌, ◌++◌, append_assoc, append-nil}
 use Prim.Native.Nat.{ℕ, zero, suc, ◌+◌, ◌-◌, ◌≤◌, ◌<◌}
-use native.Mathlib.Numerals.{add-one}
 use native.Mathlib.Omega.{arith}
 use borrow.Author.Tests.{eq-eqb, ne_eqb, ltb-true, ltb-false, le-leb, lt-leb, leb-true, leb-false}
 use lib.Dec.{eqb, leb, ltb, leb-suc-suc}
 use lib.ListN.{get_or-eq_default, drop_of_length-le, length, get_or, take, drop, length-append, length-take, length-drop, take-append-drop}
-use lib.Seq.{take-suc, take_all, slice, length-slice, drop-cons, get_or-drop, drop-drop, drop-length}
+use lib.Seq.{take-suc, take_all, take-take, slice, length-slice, drop-cons, get_or-drop, drop-drop}
 use Rattle.std.proofs.lemmas.List.Sums.{count_by-le-length, sum_by-append}
 use Rattle.text.specs.Utf8.{before_zero}
 use Rattle.text.proofs.utf8.Terminated.{before_none, before_zero_lem, before_more}
@@ -47,6 +46,14 @@ pub pieces_byte : (x : ℕ) (xs : List ℕ) → (x ≡ 0 → ⊥) → pieces (x 
 unfolding pieces
 pieces_byte x xs n = simp (ne_eqb x 0 n)
 
+-- two slices that meet are one
+pub slice_split : (i j e : ℕ) (b : List ℕ) → i ≤ j → j ≤ e → slice i e b ≡ slice i j b ++ slice j e b
+slice_split zero j e b h k = sym (take-append-drop j (take e b)) ∙ ap (λ (x : List ℕ). x ++ slice j e b) (take-take j e b k)
+slice_split (suc i) zero e b h k = absurd (omega arith)
+slice_split (suc i) (suc j) zero b h k = absurd (omega arith)
+slice_split (suc i) (suc j) (suc e) [] h k = refl
+slice_split (suc i) (suc j) (suc e) (x ∷ b) h k = slice_split i j e b (omega arith) (omega arith)
+
 -- ---- passing whole blocks
 
 module _ {s : List ℕ} {most : ℕ} where
@@ -71,15 +78,7 @@ module _ {s : List ℕ} {most : ℕ} where
     pub count_last : {i : ℕ} → length rest ≤ i → {m : ℕ} → m ≡ zeros (take i rest) → n + m + 1 ≡ length (pieces s)
     count_last {i} h z = omega (arith, k.counted, z, ap zeros (take_all i rest h), ap zeros k.is, zeros_append k.passed rest, length_pieces s)
 
--- ---- finding a piece
-
--- of a heap whose last bytes are s, k pieces begin before or at byte i of s, the last of them open there; the one that is looked for is
--- index - k further on
-pub record Seeking (heap : List ℕ) (index : ℕ) (s : List ℕ) (k i : ℕ) : Type 0 where
-  pub bound : i ≤ length s
-  pub order : k ≤ index
-  pub most : index - k < length (pieces (drop i s))
-  pub rest : drop (index - k) (pieces (drop i s)) ≡ drop (index - 1) (pieces heap)
+-- ---- the pieces further on
 
 onto_later : (x : ℕ) (ps : List (List ℕ)) (j : ℕ) → 1 ≤ length ps → drop (suc j) (onto x ps) ≡ drop (suc j) ps
 onto_later x [] j h = absurd (omega arith)
@@ -108,67 +107,6 @@ from_here i b e h = simp (le-leb i e h)
 pub heap_begins : (b : List ℕ) {e : ℕ} → 1 ≤ length (heap_pieces b e) → 40 ≤ e
 unfolding pieces_from
 heap_begins b {e} h = either (leb 40 e) (λ t. leb-true 40 e t) (λ t. absurd (omega (arith, simp t at h)))
-
-module _ {heap : List ℕ} {index : ℕ} where
-  pub seek_start : HasPiece heap index → (index ≡ 1 → ⊥) → {n : ℕ} {s : List ℕ} → Skips heap (index - 2) n s → Seeking heap index s (n + 1) 0
-  seek_start p m {n} {s} k =
-      let split : pieces heap ≡ pieces (k.passed ++ s) = ap pieces k.is in
-      let j : ℕ = index - 2 - n in
-      let y : index - (n + 1) ≡ suc j = omega (arith, p.least, k.few) in
-      let z : index - 1 ≡ zeros k.passed + suc j = omega (arith, p.least, k.few, k.counted) in
-      record {
-        bound = omega arith;
-        order = omega (arith, p.least, k.few);
-        most = omega (arith, p.most, p.least, k.few, k.counted, ap length split, length_pieces (k.passed ++ s), zeros_append k.passed s, length_pieces s);
-        rest = rw (y, z, split) (sym (pieces_later k.passed s j));
-      }
-
-  module _ {s : List ℕ} {k i : ℕ} (t : Seeking heap index s k i) where
-    -- a piece further on is not the last, so a byte is left
-    pub seek_here : k < index → i < length s
-    unfolding pieces
-    seek_here h =
-        either (ltb i (length s)) (λ u. ltb-true i (length s) u)
-        (λ u. let z : i ≡ length s = omega (arith, t.bound, ltb-false i (length s) u) in
-        let l : length (pieces (drop i s)) ≡ 1 = ap (λ (j : ℕ). length (pieces (drop j s))) z ∙ ap (λ (xs : List ℕ). length (pieces xs)) (drop-length s) in
-        absurd (omega (arith, t.most)))
-
-    module _ (h : k < index) where
-      cut : drop i s ≡ get_or s i 0 ∷ drop (i + 1) s
-      cut = rw add-one (drop-cons s i 0 (seek_here h))
-
-      next_is : index - k ≡ suc (index - (k + 1))
-      next_is = omega arith
-
-      pub seek_zero : get_or s i 0 ≡ 0 → Seeking heap index s (k + 1) (i + 1)
-      seek_zero z =
-          let a : i < length s = seek_here h in
-          let q : pieces (drop i s) ≡ [] ∷ pieces (drop (i + 1) s) = ap pieces cut ∙ pieces_zero (get_or s i 0) (drop (i + 1) s) z in
-          record {
-            bound = omega arith;
-            order = omega arith;
-            most = omega (arith, t.most, ap length q);
-            rest = sym (ap (drop (suc (index - (k + 1)))) q) ∙ sym (ap (λ (j : ℕ). drop j (pieces (drop i s))) next_is) ∙ t.rest;
-          }
-
-      pub seek_byte : (get_or s i 0 ≡ 0 → ⊥) → Seeking heap index s k (i + 1)
-      seek_byte z =
-          let a : i < length s = seek_here h in
-          let r : List (List ℕ) = pieces (drop (i + 1) s) in
-          let m : 1 ≤ length r = pieces_some (drop (i + 1) s) in
-          let q : pieces (drop i s) ≡ onto (get_or s i 0) r = ap pieces cut ∙ pieces_byte (get_or s i 0) (drop (i + 1) s) z in
-          let l : length (pieces (drop i s)) ≡ length r = ap length q ∙ length_onto (get_or s i 0) r m in
-          record {
-            bound = omega arith;
-            order = t.order;
-            most = omega (arith, t.most);
-            rest =
-                ap (λ (j : ℕ). drop j r) next_is
-                ∙ sym (onto_later (get_or s i 0) r (index - (k + 1)) m)
-                ∙ sym (ap (drop (suc (index - (k + 1)))) q)
-                ∙ sym (ap (λ (j : ℕ). drop j (pieces (drop i s))) next_is)
-                ∙ t.rest;
-          }
 
 -- ---- where a piece ends
 
@@ -219,6 +157,52 @@ pub pieces_first : {s : List ℕ} {n : ℕ} → FirstPiece s n → pieces s ≡ 
 pieces_first {s} {n} f =
     let z : n ≡ length (before_zero s) = omega (arith, ap length f.is, length-take n s, f.inside) in
     rw z (first_pieces s)
+
+-- ---- finding a piece
+
+-- s is the heap from piece k on, and the piece that is looked for is index - k further on
+pub record Seeking (heap : List ℕ) (index k : ℕ) (s : List ℕ) : Type 0 where
+  pub short : length s ≤ length heap
+  pub order : k ≤ index
+  pub most : index - k < length (pieces s)
+  pub rest : drop (index - k) (pieces s) ≡ drop (index - 1) (pieces heap)
+
+module _ {heap : List ℕ} {index : ℕ} where
+  pub seek_start : HasPiece heap index → (index ≡ 1 → ⊥) → {n : ℕ} {s : List ℕ} → Skips heap (index - 2) n s → Seeking heap index (n + 1) s
+  seek_start p m {n} {s} k =
+      let split : pieces heap ≡ pieces (k.passed ++ s) = ap pieces k.is in
+      let j : ℕ = index - 2 - n in
+      let y : index - (n + 1) ≡ suc j = omega (arith, p.least, k.few) in
+      let z : index - 1 ≡ zeros k.passed + suc j = omega (arith, p.least, k.few, k.counted) in
+      record {
+        short = omega (arith, ap length k.is, length-append k.passed s);
+        order = omega (arith, p.least, k.few);
+        most = omega (arith, p.most, p.least, k.few, k.counted, ap length split, length_pieces (k.passed ++ s), zeros_append k.passed s, length_pieces s);
+        rest = rw (y, z, split) (sym (pieces_later k.passed s j));
+      }
+
+  module _ {k : ℕ} {s : List ℕ} (t : Seeking heap index k s) (h : k < index) {n : ℕ} (f : FirstPiece s n) where
+    -- a piece further on is not the last, so a zero byte ends the first
+    pub seek_ended : n + 1 ≤ length s
+    seek_ended =
+        either (leb (n + 1) (length s)) (λ u. leb-true (n + 1) (length s) u)
+        (λ u. absurd (omega (arith, t.most, ap length (simp u at (pieces_first f)))))
+
+    pub seek_turn : {s' : List ℕ} → s' ≡ drop (n + 1) s → Seeking heap index (k + 1) s'
+    seek_turn {s'} e =
+        let m : index - k ≡ suc (index - (k + 1)) = omega arith in
+        let q : pieces s ≡ before_zero s ∷ pieces s' = rw e (simp (le-leb (n + 1) (length s) seek_ended) at (pieces_first f)) in
+        record {
+          short = omega (arith, t.short, ap length e, length-drop (n + 1) s);
+          order = omega arith;
+          most = omega (arith, t.most, ap length q);
+          rest = sym (ap (drop (suc (index - (k + 1)))) q) ∙ sym (ap (λ (j : ℕ). drop j (pieces s)) m) ∙ t.rest;
+        }
+
+  pub seek_end : {k : ℕ} {s : List ℕ} → Seeking heap index k s → k ≡ index → pieces s ≡ drop (index - 1) (pieces heap)
+  seek_end {k} {s} t z =
+      let y : index - k ≡ 0 = omega arith in
+      rw y at t.rest
 
 -- ---- walking the heap
 

@@ -3,11 +3,11 @@
 use mathlib.Core.Path.{◌≡◌, refl, sym, ap, ap₂, ◌∙◌, subst, fun_ext}
 use mathlib.Core.Bool.{Bool, true, false, cond, not}
 use mathlib.Core.List.{List, [], ◌∷◌, map}
-use Prim.Native.Nat.{ℕ, ◌+◌, ◌-◌, ◌≤◌, ◌<◌}
+use Prim.Native.Nat.{ℕ, ◌+◌, ◌≤◌, ◌<◌}
 use native.Mathlib.Omega.{arith}
 use borrow.Author.Tests.{ne_eqb, not-false, lt-ltb, le-ltb, le-leb, lt-leb, leb-true, ltb-true, ltb-false}
 use lib.Dec.{eqb, leb, ltb}
-use lib.ListN.{length, get_or, take, drop, set, length-map}
+use lib.ListN.{length, get_or, take, set, length-map}
 use lib.Seq.{slice}
 use Rattle.std.specs.Prelude.{Ok, Err, Result as Reply}
 use Rattle.std.specs.Result.{is_ok}
@@ -23,16 +23,15 @@ use Rattle.text.proofs.utf8.Lossy.{valid_scalars}
 use Rattle.reader.specs.Names.{heap_of, shown_bytes}
 use Rattle.reader.specs.Objects.{check_triple, check_triples, row_of, replaced_of}
 use Rattle.reader.specs.Stages.Chunks.{ToNames, value_in, Looks, FillsTable}
-use Rattle.reader.specs.Stages.Names.{heap_pieces, FirstPiece, IsSize}
+use Rattle.reader.specs.Stages.Names.{FirstPiece, IsSize}
 use Rattle.reader.specs.Stages.Replacements.{no_count, count_below, recounted, SoundNames, CountsRows}
 use Rattle.reader.specs.declared.chunks.NameWalk.{NameWalk}
 use Rattle.reader.specs.declared.file_wrapper.FileWrapper.{FileWrapper}
 use Rattle.reader.specs.declared.file_wrapper.Metadata.{Metadata}
 use Rattle.reader.specs.declared.properties.PropertyRow.{PropertyRow}
 use Rattle.reader.specs.declared.records.Triple.{Triple}
-use Rattle.reader.proofs.chunks.Laws.{in_chunk}
+use Rattle.reader.proofs.chunks.Laws.{in_chunk, has_piece}
 use Rattle.reader.proofs.FrontLaws.{Fronts, front_next, front_turn, front_all}
-use Rattle.reader.proofs.NameLaws.{part_slice}
 use Rattle.reader.proofs.names.Pieces.{heap_begins, stand_inside, stand_empty, stand_name, stand_next}
 use Rattle.reader.proofs.names.Sound.{empty_sound, name_sound}
 
@@ -92,20 +91,17 @@ module _ {m : Metadata} {x start : ℕ} (n : ToNames m x (x + 1) start) where
   counted_empty z = record { is = rw z (sym (empty_sound m.blob.now (get_or m.w.offsets 0 0))); none = λ e. refl; heap = stand_empty n.heap z }
 
   module _ (some : x ≡ 0 → ⊥) where
-    declared : x ≤ length (heap_pieces m.blob.now (get_or m.w.offsets 0 0))
-    declared = omega (arith, n.few, m.opens.names)
-
     pub count_inside : start ≤ get_or m.w.offsets 0 0
-    count_inside = stand_inside n.heap some declared
+    count_inside = stand_inside n.heap some (has_piece n)
 
     pub counted_name : {rest : List ℕ} → rest ≡ slice start (get_or m.w.offsets 0 0) m.blob.now → {e : ℕ} → FirstPiece rest e → {s : LossySize} → IsSize (take e rest) s
         → Looks m 0 told x (record { value = s.replaced; any = ltb 0 s.replaced; next = start + e + 1 })
     counted_name r {e} f {s} i =
         let l : get_or m.w.offsets 0 0 ≤ length m.blob.now = omega (arith, m.opens) in
         record {
-          is = i.replaced ∙ ap told (sym f.is ∙ stand_name n.heap some declared l r f);
+          is = i.replaced ∙ ap told (sym f.is ∙ stand_name n.heap some (has_piece n) l r f);
           none = λ z. omega (arith, ltb-false 0 s.replaced z);
-          heap = stand_next n.heap some declared l r f;
+          heap = stand_next n.heap some (has_piece n) l r f;
         }
 
 -- ---- the rows, one after another
@@ -161,15 +157,13 @@ module _ (m : Metadata) where
     pub sound_begins : 40 ≤ get_or m.w.offsets 0 0
     sound_begins = heap_begins m.blob.now (omega (arith, m.opens.names))
 
-    whole : (x : Reply (Unit {0}) Utf8Error) → error_place x ≡ first_ill_formed (parts_from (take (get_or m.w.offsets 0 0 - 40) (drop 40 m.blob.now)) 0) → SoundNames m (is_ok x)
-    whole (Ok u) e = λ i h.
-        let heap : take (get_or m.w.offsets 0 0 - 40) (drop 40 m.blob.now) ≡ heap_of m.blob.now (get_or m.w.offsets 0 0) = part_slice 40 (get_or m.w.offsets 0 0) m.blob.now sound_begins in
-        name_sound m.blob.now (get_or m.w.offsets 0 0) (valid_scalars (heap_of m.blob.now (get_or m.w.offsets 0 0)) {A = Unit {0}} {x = Ok u} (rw heap at e) {a = u} refl) i
-    whole (Err f) e = tt
+    module _ {heap : List ℕ} (r : heap ≡ heap_of m.blob.now (get_or m.w.offsets 0 0)) where
+      whole : (x : Reply (Unit {0}) Utf8Error) → error_place x ≡ first_ill_formed (parts_from heap 0) → SoundNames m (is_ok x)
+      whole (Ok u) e = λ i h. name_sound m.blob.now (get_or m.w.offsets 0 0) (valid_scalars (heap_of m.blob.now (get_or m.w.offsets 0 0)) {A = Unit {0}} {x = Ok u} (rw r at e) {a = u} refl) i
+      whole (Err f) e = tt
 
-    pub sound_whole : (x : Reply (Unit {0}) Utf8Error) → error_place x ≡ first_ill_formed (parts_from (take (get_or m.w.offsets 0 0 - 40) (drop 40 m.blob.now)) 0) → {r : Bool} → r ≡ is_ok x
-        → SoundNames m r
-    sound_whole x e {r} g = rw g (whole x e)
+      pub sound_whole : (x : Reply (Unit {0}) Utf8Error) → error_place x ≡ first_ill_formed (parts_from heap 0) → {s : Bool} → s ≡ is_ok x → SoundNames m s
+      sound_whole x e {s} g = rw g (whole x e)
 
 -- ---- all rows
 

@@ -5,6 +5,7 @@ use Rattle.std.specs.Option.{unwrap_or}
 use mathlib.Core.Path.{◌≡◌, refl, ◌∙◌, sym, ap, ap₂}
 use mathlib.Core.Bool.{Bool, true, false}
 use mathlib.Core.List.{List, [], ◌∷◌, ◌++◌, flat_map}
+use Rattle.std.specs.Cmp.{both_ways}
 use Rattle.std.specs.List.{list_any}
 use Rattle.std.proofs.lemmas.List.Folds.{list_any_at}
 use Rattle.std.specs.Prelude.{Option, Some, Ok, Err, Result as Reply}
@@ -260,12 +261,6 @@ canonical_from {p} {base} {n} b c =
 
 -- ---- the outcomes of `is_canonical_payload`
 
--- tests that hold together are the same
-same_test : (a b : Bool) → (a ≡ true → b ≡ true) → (b ≡ true → a ≡ true) → a ≡ b
-same_test true b f g = sym (f refl)
-same_test false true f g = g refl
-same_test false false f g = refl
-
 -- a length that marks a missing string
 abbrev is_mark : ℕ → Bool
 is_mark y = eqb y (2 ^ 64 - 1)
@@ -288,7 +283,7 @@ module _ (p : List ℕ) where
     parts e = parts_of p base n (decoded_by (both p e).0) (canonical_is p e)
 
     never : (is_canonical_payload p ≡ true → ⊥) → false ≡ is_canonical_payload p
-    never f = same_test false (is_canonical_payload p) (λ t. not_both t refl) (λ t. absurd (f t))
+    never f = both_ways false (is_canonical_payload p) (λ t. not_both t refl) (λ t. absurd (f t))
 
   refused : {f : Failure} → decode_payload p ≡ error f → false ≡ is_canonical_payload p
   unfolding is_canonical_payload

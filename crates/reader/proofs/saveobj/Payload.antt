@@ -1,7 +1,7 @@
 -- The outcomes of `measure_saveobj`, `put_payload` and `decode_string_saveobj`, and what a payload that passed its checks is.
 -- Assumes nothing.
 use Prim.Native.Nat.{ℕ, zero, suc, ◌+◌, ◌-◌, ◌*◌, ◌^◌, ◌≤◌, ◌<◌, min}
-use mathlib.Core.Path.{◌≡◌, refl, sym, ap, subst, ◌∙◌}
+use mathlib.Core.Path.{◌≡◌, refl, sym, ap, ap₂, subst, ◌∙◌}
 use mathlib.Core.Bool.{true, false}
 use mathlib.Core.List.{List}
 use Rattle.std.specs.Prelude.{Some}
@@ -22,6 +22,7 @@ use Rattle.text.specs.declared.error.MatError.{MatError}
 use Rattle.text.proofs.BufferLaws.{put_front}
 use Rattle.text.proofs.ReplyLaws.{handed_on}
 use Rattle.text.proofs.ResultLaws.{same_value, check_passed, seq_passed, seq_bind, bind_passed, check_each_passed, check_is, Checks, checks_start, checks_turn, checks_stop}
+use Rattle.text.proofs.TestLaws.{clash}
 use Rattle.writer.specs.Spans.{joined, spans_from}
 use Rattle.reader.specs.Saveobj.{units_before, stored_units, stored_strings, Header, check_header, check_sum, check_unit_count, check_pairing, decode_payload, check_outputs, into_strings}
 use Rattle.reader.specs.Stages.Saveobj.{Layout, check_layout, checked_units, UnitsChecked, StringsFit, origin, FitsAt, WritesAt}
@@ -32,6 +33,10 @@ use Rattle.reader.proofs.saveobj.HeaderLaws.{HeaderPassed, header_passed}
 use Rattle.reader.proofs.saveobj.Lengths.{sum_fits}
 use Rattle.writer.proofs.SpanLaws.{some_is}
 use Rattle.reader.proofs.saveobj.Strings.{is_paired, length_stored, stored_most}
+
+-- the position by default
+pub at_origin : {p : Position} → (p.byte ≡ 0) × (p.string ≡ 0) → p ≡ origin
+at_origin e = ap₂ (λ (b s : ℕ). record { byte = b; string = s }) e.0 e.1
 
 -- ---- checks that passed
 
@@ -225,8 +230,7 @@ module _ (payload t s : List ℕ) (at : Position) (f : FitsAt (decode_payload pa
   put_never {r} e =
       let p = payload_passed payload f.passed in
       let q = sym p.1.0 ∙ sym e in
-      let z : ◌≡◌ {A = ℕ} 0 1 = cc in
-      absurd (omega arith)
+      clash cc
 
 -- ---- the outcomes of `decode_string_saveobj`
 
@@ -235,9 +239,7 @@ pub counts_are : (m : Result (List (List ℕ))) {size : DecodedSize} → ok size
 counts_are (ok ss) e =
     let k = same_value (sym e) in
     (refl, ap (λ (c : DecodedSize). c.bytes) k, ap (λ (c : DecodedSize). c.strings) k)
-counts_are (error f) e =
-    let z : ◌≡◌ {A = ℕ} 0 1 = cc in
-    absurd (omega arith)
+counts_are (error f) e = clash cc
 
 -- ---- 34 for the text and the spans of strings
 

@@ -1,4 +1,4 @@
--- Strings in a payload, one after the other: the loops of `measure_strings` (check 29) and `put_strings`.
+-- Strings in a payload, one after the other: the loops of `StringPayload::measure` (check 29) and `StringPayload::put`.
 -- Assumes nothing.
 use Prim.Native.Nat.{ℕ, zero, suc, ◌+◌, ◌-◌, ◌*◌, ◌^◌, ◌≤◌, ◌<◌}
 use mathlib.Core.Path.{◌≡◌, refl, sym, ap, subst, ◌∙◌}

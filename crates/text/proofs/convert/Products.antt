@@ -12,6 +12,7 @@ use lib.ListN.{length, get_or, drop}
 use lib.Seq.{drop-cons, drop-length}
 use Rattle.text.specs.Product.{product_from, product_of, check_product}
 use Rattle.text.specs.Result.{Result, ok, ◌>>=◌}
+use Rattle.text.proofs.TestLaws.{clash}
 
 -- ---- a loop that multiplies dimensions: this is the product of those before dimension i
 
@@ -58,6 +59,4 @@ module _ {D : Type 0} (size : D → ℕ) (ds : List D) where
 pub product_passed : (number : ℕ) (x : Reply ℕ ℕ) {A : Type 0} (f : ℕ → Result A) {b : A} → (check_product number x >>= f) ≡ ok b
     → (p : ℕ) × ((x ≡ Ok p) × (f p ≡ ok b))
 product_passed number (Ok p) f e = (p, (refl, e))
-product_passed number (Err i) f {b} e =
-    let z : ◌≡◌ {A = ℕ} 0 1 = cc in
-    absurd (omega arith)
+product_passed number (Err i) f {b} e = clash cc

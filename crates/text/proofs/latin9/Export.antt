@@ -27,7 +27,7 @@ use Rattle.text.specs.declared.utf8.Step.TheVariants.{Scalar, IllFormed, End}
 use Rattle.text.proofs.BufferLaws.{SoFar, Splits, begins, fits_next, goes_on, ends, put_front, places_front}
 use Rattle.text.proofs.ByteLaws.{size_1, size_2, size_3, stores}
 use Rattle.text.proofs.utf8.Count.{whole_least, broken_here, scalar_here, whole_is}
-use Rattle.text.proofs.Latin9Laws.{byte_back, byte_is, ascii_point, point_top, far_none, gave_way, exported_text, own_text}
+use Rattle.text.proofs.Latin9Laws.{byte_back, byte_is, ascii_point, point_top, high_none, far_none, gave_way, exported_text, own_text}
 use Rattle.text.proofs.LeadLaws.{ascii, lead_range, starts_byte, not_one}
 use Rattle.text.proofs.PartLaws.{Reads, step_reads, step_end, parts_end, parts_scalar, parts_ill_formed}
 use Rattle.text.proofs.ReplyLaws.{writes, told_value, told_error}
@@ -49,6 +49,8 @@ module _ {v : ℕ} {r : Bool} (h : v < 256) (is : r ≡ not (eqb (code_point v) 
 
   pub no_byte : not r ≡ false → None ≡ byte_of v
   no_byte n = sym (gave_way v h (eqb-false (code_point v) v (not-true (eqb (code_point v) v) (sym is ∙ not-false r n))))
+
+pub ruleset bytes_of = (own_byte, no_byte, high_none)
 
 -- ---- the returns of `byte_at`
 

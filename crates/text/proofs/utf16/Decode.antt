@@ -26,24 +26,16 @@ use Rattle.text.specs.declared.utf16.Scalar.{Scalar}
 use Rattle.text.proofs.BufferLaws.{SoFar, Splits, begins, fits_next, goes_on, ends, put_front}
 use Rattle.text.proofs.ReplyLaws.{writes}
 use Rattle.text.proofs.ScalarLaws.{IsScalar, gap_below, gap_above, lengths, utf16_1, utf16_2, utf8s_nil, utf8s_cons}
-use Rattle.text.proofs.TestLaws.{within_yes, within_is}
+use Rattle.text.proofs.TestLaws.{within_is}
 use Rattle.text.proofs.Utf8Laws.{map_is, not_some}
 use Rattle.text.proofs.Utf16Laws.{one_unit, two_units, scalars16_nil, alone, low_first, no_low}
 
--- ---- a law for each return of `unit_step`
+-- ---- the first return of `step_at`
 
 module _ (u l : ℕ) (more : Bool) where
   pub step_below : u < 0xD800 → Some (scalar u 1) ≡ unit_step u l more
   unfolding unit_step
   step_below h = simp (gap_below u h)
-
-module _ (u : ℕ) (from : 0xD800 ≤ u) (to : u ≤ 0xDFFF) where
-  pub surrogate : is_surrogate u ≡ true
-  surrogate = within_yes 0xD800 0xDFFF u from to
-
-  pub step_pair : u ≤ 0xDBFF → {l : ℕ} → 0xDC00 ≤ l → l ≤ 0xDFFF → Some (scalar (pair_value u l) 2) ≡ unit_step u l true
-  unfolding unit_step
-  step_pair high {l} least most = simp (surrogate, within_yes 0xD800 0xDBFF u from high, within_yes 0xDC00 0xDFFF l least most)
 
 -- ---- a step by what the units are
 

@@ -16,7 +16,7 @@ use Rattle.text.specs.declared.utf8.Utf8Error.{Utf8Error}
 use Rattle.text.specs.Replies.{error_place, CountsUnits}
 use Rattle.text.specs.Stages.Utf8.{whole_length}
 use Rattle.text.specs.Unicode.{utf16, utf16s}
-use Rattle.text.specs.Utf8.{sequence_length, matched, value_at, whole_at, next_at, step_at, parts_from, scalars_of, scalars8, first_ill_formed, units_of}
+use Rattle.text.specs.Utf8.{sequence_length, matched, value_at, whole_at, next_at, step_at, parts_from, scalars_of, first_ill_formed, units_of}
 use Rattle.text.proofs.LeadLaws.{ascii}
 use Rattle.text.proofs.PartLaws.{step_reads, parts_end, parts_scalar, parts_ill_formed}
 use Rattle.text.proofs.ScalarLaws.{lengths}
@@ -64,9 +64,6 @@ module _ (t : List ℕ) (i : ℕ) {r : ℕ} (h : i < length t) (e : Some r ≡ w
       simp (lt-ltb i (length t) h, w.0) (ap₂ (λ (m k : ℕ). Scalar (value_at t i m) k) w.1 n)
 
 module _ (t : List ℕ) where
-  pub count_start : Counting t 0 0
-  count_start = record { bound = omega arith; most = omega arith; units = from_none (scalars8 t); place = refl }
-
   module _ {n i : ℕ} (c : Counting t n i) where
     -- a sequence more
     count_scalar : {v next : ℕ} (k : ℕ) → step_at t i ≡ Scalar v next → k ≡ 1 + (next - i) / 4 → Counting t (n + k) next

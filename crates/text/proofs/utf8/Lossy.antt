@@ -3,7 +3,7 @@
 use mathlib.Core.Path.{◌≡◌, refl, ◌∙◌, sym, ap, ap₂}
 use mathlib.Core.Bool.{Bool, true, false, cond, not}
 use mathlib.Core.List.{List, [], ◌∷◌, flat_map}
-use Rattle.std.specs.Prelude.{Option, Some, None, Ok, Err, Result as Reply}
+use Rattle.std.specs.Prelude.{Option, Some, None, Ok, Err, Result as Reply, MatchOption}
 use Rattle.std.specs.Option.{option_map}
 use Prim.Native.Nat.{ℕ, ◌+◌, ◌-◌, ◌*◌, ◌/◌, ◌^◌, ◌≤◌, ◌<◌, min}
 use native.Mathlib.Omega.{arith}
@@ -26,7 +26,7 @@ use Rattle.text.proofs.utf8.Count.{valid_units}
 use Rattle.text.proofs.LeadLaws.{ascii}
 use Rattle.text.proofs.PartLaws.{StepsTo, step_reads, step_breaks, step_end, parts_end, parts_scalar, parts_ill_formed, parts_rule}
 use Rattle.text.proofs.ScalarLaws.{scalar_is, is_scalar_lem, utf8s_cons}
-use Rattle.text.proofs.TestLaws.{equal_or, either}
+use Rattle.text.proofs.TestLaws.{clash, equal_or, either}
 use Rattle.text.proofs.Utf8Laws.{step_took, took_size, not_some, spelled, lossy_le}
 
 -- what a step writes: the scalar value w, with k replaced parts
@@ -144,7 +144,7 @@ module _ (s : List ℕ) where
   unfolding first_ill_formed
   measure_from {at} e =
       parts_rule s (λ (i : ℕ) (ps : List Part). first_ill_formed ps ≡ Some at → Measuring s 0 0 i → Measuring s 0 0 at)
-      (λ i h g m. let z : ◌≡◌ {A = ℕ} 0 1 = cc in absurd (omega arith)) (λ i v n t rest g m. rest g (measure_scalar m t))
+      (λ i h g m. clash cc) (λ i v n t rest g m. rest g (measure_scalar m t))
       (λ i n t rest g m. let z : i ≡ at = cc in rw z at m) 0 e measure_start
 
 -- ---- writing
@@ -215,7 +215,7 @@ no_replaced : (ps : List Part) → None ≡ first_ill_formed ps → replaced_in 
 unfolding first_ill_formed replaced_in
 no_replaced [] e = refl
 no_replaced (sequence v ∷ ps) e = no_replaced ps e
-no_replaced (ill_formed i ∷ ps) e = let z : ◌≡◌ {A = ℕ} 0 1 = cc in absurd (omega arith)
+no_replaced (ill_formed i ∷ ps) e = clash cc
 
 broken_parts : (ps : List Part) → (replaced_in ps ≡ 0 → ⊥) → scalars_of ps ≡ None
 unfolding replaced_in scalars_of
@@ -280,11 +280,12 @@ module _ (s : List ℕ) {x : Option LossySize} (is : x ≡ lossy_length s) where
 
   -- ---- the returns of `lossy_fits`
 
-  pub fits_measured : {z : LossySize} → x ≡ Some z → (room : ℕ) → leb z.bytes room ≡ leb (length (lossy s)) room
-  fits_measured e room = ap (λ (k : LossySize). leb k.bytes room) (length_is e).0
-
-  pub fits_never : {room : ℕ} → x ≡ None → room < 2 ^ 64 → false ≡ leb (length (lossy s)) room
-  fits_never {room} e h = sym (lt-leb (length (lossy s)) room (omega (arith, too_long_is e)))
+  pub fits_measured : {r : Bool} (room : ℕ) → room < 2 ^ 64 → MatchOption x (r ≡ false) (λ z. r ≡ leb z.bytes room) → r ≡ leb (length (lossy s)) room
+  fits_measured {r} room h m = by x refl m
+    where
+      by : (y : Option LossySize) → x ≡ y → MatchOption y (r ≡ false) (λ z. r ≡ leb z.bytes room) → r ≡ leb (length (lossy s)) room
+      by (Some z) e k = k ∙ ap (λ (k : LossySize). leb k.bytes room) (length_is e).0
+      by None e k = k ∙ sym (lt-leb (length (lossy s)) room (omega (arith, too_long_is e)))
 
 pub fits_thrice : (s : List ℕ) (room : ℕ) → length s ≤ room / 3 → true ≡ leb (length (lossy s)) room
 fits_thrice s room h = sym (le-leb (length (lossy s)) room (omega (arith, lossy_le s)))

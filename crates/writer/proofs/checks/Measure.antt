@@ -1,4 +1,4 @@
--- The loop of `measure_strings`, and the outcomes of `measure_payload`.
+-- The loop of `Strings::measure`, and the outcomes of `measure_payload`.
 -- Assumes nothing.
 use Prim.Native.Nat.{ℕ, zero, ◌+◌, ◌-◌, ◌/◌, ◌%◌, ◌^◌, ◌≤◌, ◌<◌}
 use mathlib.Core.Path.{◌≡◌, refl, sym, ap, ◌∙◌}

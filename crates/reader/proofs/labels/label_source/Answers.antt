@@ -4,7 +4,7 @@ use mathlib.Core.Path.{◌∙◌}
 use borrow.Author.Rules.{rules}
 use Rattle.text.proofs.ReplyLaws.{handed_on}
 use Rattle.reader.specs.Labels.{label_of}
-use Rattle.reader.proofs.labels.Laws.{source_zero, stored_name, rest_fits, source_ill_formed, source_empty, source_blob}
+use Rattle.reader.proofs.labels.Laws.{source_zero, rest_fits, source_ill_formed, source_empty, source_blob}
 use Rattle.reader.proofs.labels.label_source.Goals as goal
 
 pub returns-in_err-metadata : goal.returns-in_err-metadata
@@ -18,9 +18,6 @@ returns-in_err-check_name c =
 
 pub returns-then-index-eq0 : goal.returns-then-index-eq0
 returns-then-index-eq0 c = search (source_zero, c.in_ok-metadata.ensures.0, rules)
-
-pub heap_from-rest-requires : goal.heap_from-rest-requires
-heap_from-rest-requires c = search (stored_name, c.in_ok-metadata.ensures.0, c.in_ok-check_name.ensures, rules)
 
 pub returns-in_default : goal.returns-in_default
 returns-in_default c = search (source_ill_formed, c.in_ok-metadata.ensures.0, c.in_ok-check_name.ensures, c.in_default.ensures, rules)

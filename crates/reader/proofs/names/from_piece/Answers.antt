@@ -1,23 +1,26 @@
 -- `reader::names::from_piece` meets its contract.
 -- Assumes nothing.
+use Rattle.reader.proofs.names.Pieces.{seek_start, seek_ended, seek_turn, seek_end}
+use Prim.Native.Nat.{◌+◌}
 use native.Mathlib.Omega.{arith}
-use Rattle.reader.proofs.names.Pieces.{seek_start, seek_here, seek_zero, seek_byte}
+use Rattle.std.proofs.lemmas.List.{take_rest}
 use borrow.Author.Rules.{rules}
 use Rattle.reader.proofs.names.from_piece.Goals as goal
-use Rattle.reader.proofs.names.from_piece.Goals.{then-rest-i-eq0, else-rest-i-eq0}
 
-pub loop-k-init : goal.loop-k-init
-loop-k-init c = search (seek_start, rules)
+pub loop-init : goal.loop-init
+loop-init c = search (seek_start, rules)
 
-pub bounds-rest-i : goal.bounds-rest-i
-bounds-rest-i c = search (seek_here, rules)
+pub overflow_add-rest : goal.overflow_add-rest
+overflow_add-rest c = omega (arith, seek_ended c.loop.invariant c.loop-test.true c.piece_end.ensures, c.loop.invariant)
 
-pub loop-k-smaller : goal.loop-k-smaller
-loop-k-smaller c = omega (arith, seek_here c.loop-k.invariant c.loop-k-test.true)
+pub slice_bounds-rest-count : goal.slice_bounds-rest-count
+slice_bounds-rest-count c = seek_ended c.loop.invariant c.loop-test.true c.piece_end.ensures
 
-pub loop-k-preserved : goal.loop-k-preserved
-loop-k-preserved c =
-    elim c.if-rest-i-eq0.branch [
-      | then-rest-i-eq0 w ↦ rw w.k-is (seek_zero c.loop-k.invariant c.loop-k-test.true w.if-rest-i-eq0.true)
-      | else-rest-i-eq0 w ↦ rw w.k-is (seek_byte c.loop-k.invariant c.loop-k-test.true w.if-rest-i-eq0.false)
-    ]
+pub slice_bounds-rest-start : goal.slice_bounds-rest-start
+slice_bounds-rest-start c = let h = seek_ended c.loop.invariant c.loop-test.true c.piece_end.ensures in search rules
+
+pub loop-preserved : goal.loop-preserved
+loop-preserved c = seek_turn c.loop.invariant c.loop-test.true c.piece_end.ensures (take_rest c.loop.rest.now (c.piece_end.result + 1))
+
+pub returns : goal.returns
+returns c = search (seek_end, rules)

@@ -1,7 +1,7 @@
 -- `reader::names::name` meets its contract.
 -- Assumes nothing.
 use Rattle.reader.specs.Queries.{name_text}
-use Rattle.reader.proofs.NameLaws.{refused, text_by, declared}
+use Rattle.reader.proofs.NameLaws.{refused, text_by}
 use Rattle.reader.proofs.names.name.Goals as goal
 
 pub returns-in_err-metadata : goal.returns-in_err-metadata
@@ -12,9 +12,6 @@ pub returns-in_err-check_name : goal.returns-in_err-check_name
 unfolding name_text
 returns-in_err-check_name c =
     refused _ _ _ _ c.from_residual-in_err-check_name.ensures (rw (← c.in_ok-metadata.ensures.0, ← c.in_err-check_name.ensures))
-
-pub own_bytes-requires : goal.own_bytes-requires
-own_bytes-requires c = declared c.in_ok-metadata.metadata.w _ c.in_ok-check_name.ensures
 
 pub returns : goal.returns
 unfolding name_text

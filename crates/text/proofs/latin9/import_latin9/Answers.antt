@@ -3,12 +3,8 @@
 use mathlib.Core.Path.{refl}
 use Rattle.text.specs.Latin9.{code_point, point_in, exceptions}
 use Rattle.text.proofs.Latin9Laws.{table_is}
-use Rattle.text.proofs.ReplyLaws.{writes_refused}
-use Rattle.text.proofs.latin9.Import.{import_refused, import_room, import_own, import_written}
+use Rattle.text.proofs.latin9.Import.{import_room, import_own, import_written}
 use Rattle.text.proofs.latin9.import_latin9.Goals as goal
-
-pub returns-in_err-n : goal.returns-in_err-n
-returns-in_err-n c = writes_refused _ _ c.from_residual.result c.in_err-n.field-0.0 c.from_residual.ensures (import_refused _ _ c.in_err-n.ensures)
 
 pub returns-then-n-bytes : goal.returns-then-n-bytes
 returns-then-n-bytes c = import_own _ _ c.in_ok-n.ensures c.if-n-bytes.true c.copy_into.ensures
