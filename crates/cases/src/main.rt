@@ -114,7 +114,8 @@ fn of_names(rt: &impl Print) -> io::Result<()> {
     resolve(rt, "no name", 6)
 }
 
-// The five from here on each take the runtime and a label: a struct of the two would be made anew for each line that they print.
+// The five from here on each take the runtime and a label: a struct of the two would be made anew for each line that they print. Each match
+// prints a value of its own, one println! an arm: a common one would take both as closures.
 
 // A text: its repaired text and how many parts of it were replaced, and the position of the first ill-formed part.
 fn show(rt: &impl Print, label: &str, bytes: &[u8]) -> io::Result<()> {

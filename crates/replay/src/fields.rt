@@ -40,7 +40,7 @@ impl Buffers {
     }
 }
 
-// As much of them as a line lends.
+// As much of them as a line lends. A struct of this program: store's and history's are private to them.
 #[derive(Drop)]
 pub struct Store<'a> {
     pub blob: &'a mut [u8],

@@ -71,7 +71,7 @@ impl Tallies {
 }
 
 // The line that is read, of which `filled` bytes came: those that do not fit are dropped.
-// Fixed memory, so that the line is no vector; fields.rt's List counts none of those that do not fit.
+// Fixed memory, so that the line is no vector; list.rt's List counts none of those that do not fit.
 #[derive(Drop)]
 struct Replay {
     line: [u8; LINE],
