@@ -1,22 +1,23 @@
 -- The laws of an output buffer.
 -- Assumes nothing.
 use mathlib.Core.Path.{◌≡◌, ap, ◌∙◌}
-use mathlib.Core.List.{List, ◌++◌}
+use mathlib.Core.List.{List}
 use Prim.Native.Nat.{ℕ, ◌+◌, ◌-◌, ◌≤◌}
 use native.Mathlib.Omega.{arith}
 use borrow.Rule.Slice.PartMut.{mid_of, put_mid}
-use lib.ListN.{length, take, drop, length-take, length-drop}
+use lib.ListN.{length, drop, length-take, length-drop}
 use Rattle.std.specs.Prelude.{Result as Reply}
 use Rattle.std.specs.Result.{result_unwrap_or}
+use Rattle.text.specs.Buffer.{put, Puts}
 use Rattle.text.specs.declared.error.MatError.{MatError}
-use Rattle.text.proofs.BufferLaws.{part_put, take_put}
+use Rattle.text.proofs.BufferLaws.{part_put}
 use Rattle.printing.specs.Lines.{WritesPart}
 use Rattle.printing.specs.Output.{start_of, Adds}
 use Rattle.printing.proofs.lines.Laws.{text_puts}
 
 -- a text of at most 4,096 bytes goes to the part of the buffer that is free: out and used as they were, and as they are with room for it
 pub added : (w out out₁ : List ℕ) (used used₁ : ℕ) → length w ≤ 4096
-    → used₁ ≡ start_of out used → take used₁ out₁ ≡ take used₁ out → used₁ + 4096 ≤ length out₁
+    → used₁ ≡ start_of out used → out₁ ≡ out → used₁ + 4096 ≤ length out₁
     → {r : Reply ℕ MatError} {n : ℕ} {part' : List ℕ} → WritesPart w (mid_of used₁ (length out₁ - used₁) out₁) r part' → n ≡ result_unwrap_or r 0
     → Adds w out used (put_mid used₁ (length out₁ - used₁) out₁ part') (used₁ + n)
 added w out out₁ used used₁ l place kept room {r} {n} {part'} wr e =
@@ -24,9 +25,10 @@ added w out out₁ used used₁ l place kept room {r} {n} {part'} wr e =
     omega (arith, length-take (length out₁ - used₁) (drop used₁ out₁), length-drop used₁ out₁) in
     let p = text_puts w (mid_of used₁ (length out₁ - used₁) out₁) m wr in
     let fit : used₁ + length w ≤ length out₁ = omega arith in
-    let z : used₁ + n ≡ used₁ + length w = omega (arith, p.end) in
-    let kept₁ : take used₁ out₁ ≡ take (start_of out used) out = kept ∙ ap (λ (k : ℕ). take k out) place in
+    let q : Puts (mid_of used₁ (length out₁ - used₁) out₁) 0 w n part' = record { end = e ∙ p.end; buffer = p.buffer } in
     record {
-      end = omega (arith, p.end);
-      holds = rw (z, part_put out₁ w used₁ fit p) (take_put out₁ used₁ w fit ∙ ap (λ (f : List ℕ). f ++ w) kept₁);
+      puts = record {
+        end = omega (arith, p.end);
+        buffer = part_put out₁ w used₁ fit q ∙ ap (λ (d : List ℕ). put d used₁ w) kept ∙ ap (λ (at : ℕ). put out at w) place;
+      };
     }

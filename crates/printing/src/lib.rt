@@ -6,10 +6,12 @@ pub mod input;
 pub mod lines;
 mod output;
 
-ghost use Rattle.std.specs.Prelude.{◌≡◌, ◌≤◌, IfSome, length};
+ghost use Rattle.std.specs.Prelude.{◌<◌, ◌≤◌, IfOk, take, length};
+ghost use Rattle.std.specs.Io.KnownBytes.{Consumes, IsAtEnd};
+ghost use Rattle.printing.specs.Input.{bytes_of};
 
 use crate::lines::LinePart;
-use input::read_full;
+use input::{ReadFailed, read_full};
 use output::{Output, buffer, tell};
 use reader::classes::object_class_name;
 use reader::file_wrapper::FileWrapper;
@@ -156,24 +158,28 @@ fn print_too_long(rt: &(impl Print + Eprint)) {
     o.finish();
 }
 
-// Reads to the start of buf, or tells on standard error that a read failed.
-fn read_told(rt: &impl Eprint, reader: &mut impl Read, buf: &mut [u8]) -> Option<usize>
-    ensures { IfSome result (λ n. n ≤ length buf.new) }
+// Reads to the start of buf as read_full does, and tells on standard error where a read failed.
+fn read_told<R: Read>(rt: &impl Eprint, reader: &mut R, buf: &mut [u8]) -> Result<usize, ReadFailed>
+    ensures most { bytes_of result ≤ length buf.new }
+    ensures front { Consumes (R.remaining reader.old) (R.remaining reader.new) (take (bytes_of result) buf.new) }
+    ensures whole { IfOk result (λ n. n < length buf.new → IsAtEnd (R.remaining reader.new)) }
 {
-    read_full(reader, buf)
-        .map_err(|failed| tell(rt, "standard input", failed.error))
-        .ok()
+    let read = read_full(reader, buf);
+    if let Err(failed) = &read {
+        tell(rt, "standard input", &failed.error);
+    }
+    read
 }
 
 // Prints the listing of the blob on standard input, of at most 65,536 bytes. A read that fails is told on standard error.
 pub fn list_input(rt: &(impl Input + Print + Eprint)) {
     let mut reader = rt.reader();
     let blob: &mut [u8] = &mut buffer::<u8, LARGE>();
-    let Some(n) = read_told(rt, &mut reader, blob) else {
+    let Ok(n) = read_told(rt, &mut reader, blob) else {
         return;
     };
     let after: &mut [u8] = &mut [0u8; 1];
-    let Some(more) = read_told(rt, &mut reader, after) else {
+    let Ok(more) = read_told(rt, &mut reader, after) else {
         return;
     };
     if more != 0 {

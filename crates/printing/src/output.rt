@@ -1,5 +1,5 @@
 // Standard output by way of a buffer.
-ghost use Rattle.std.specs.Prelude.{◌≡◌, ◌+◌, ◌≤◌, ◌<◌, take, length};
+ghost use Rattle.std.specs.Prelude.{◌≡◌, ◌+◌, ◌≤◌, ◌<◌, length};
 ghost use Rattle.printing.specs.Lines.{escaped, line_text};
 ghost use Rattle.printing.specs.Output.{start_of, Adds};
 
@@ -21,8 +21,15 @@ pub(crate) fn buffer<T: Copy + Default, const N: usize>() -> [T; N]
 }
 
 // Tells on standard error that reading or writing failed.
-pub(crate) fn tell(rt: &impl Eprint, stream: &str, error: io::Error) {
+pub(crate) fn tell(rt: &impl Eprint, stream: &str, error: &io::Error) {
     let _ = rt.eprintln(format_args!("{stream}: {error}"));
+}
+
+// Writes bytes, and answers whether they were written: where they were not, that is told.
+fn written(rt: &(impl Print + Eprint), bytes: &[u8]) -> bool {
+    rt.write_all(bytes)
+        .map_err(|error| tell(rt, "standard output", &error))
+        .is_ok()
 }
 
 // A lent buffer, how many of its bytes are still to be written, and whether a write failed. After that nothing is written any more. The
@@ -52,17 +59,17 @@ impl<'a, R: Print + Eprint> Output<'a, R> {
 
     // Writes what the buffer holds.
     fn flush(&mut self)
-        ensures { self.new.used ≡ 0 }
+        ensures used { self.new.used ≡ 0 }
+        ensures kept { self.new.out.now ≡ self.old.out.now }
     {
         let used = self.used;
         self.used = 0;
         if self.failed {
             return;
         }
-        let written = self.rt.write_all(&self.out[0..used]);
-        self.failed = written
-            .map_err(|error| tell(self.rt, "standard output", error))
-            .is_err();
+        // Lent to be written, though it is only read: of a buffer of self that is lent to be read, the check forgets what it holds.
+        let part = &mut self.out[0..used];
+        self.failed = !written(self.rt, part);
     }
 
     // Writes the rest, and answers whether all was written: a bool, since the error was told when it came.
@@ -74,7 +81,7 @@ impl<'a, R: Print + Eprint> Output<'a, R> {
     // Makes room for a text.
     fn make_room(&mut self)
         ensures place { self.new.used ≡ start_of self.old.out.now self.old.used }
-        ensures kept { take self.new.used self.new.out.now ≡ take self.new.used self.old.out.now }
+        ensures kept { self.new.out.now ≡ self.old.out.now }
         ensures room { self.new.used + 4096 ≤ length self.new.out.now }
     {
         if ROOM <= self.out.len() - self.used {

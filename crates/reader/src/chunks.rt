@@ -80,6 +80,18 @@ impl<'a> NameWalk<'a> {
         }
     }
 
+    // The empty name is passed over, for a look to which it has the usual value: the chunks are then of stored names alone.
+    pub(crate) fn stored(metadata: Metadata<'a>) -> NameWalk<'a>
+        ensures of { result.metadata ≡ metadata.entry }
+        ensures first { result.name ≡ 1 }
+    {
+        NameWalk {
+            metadata,
+            name: 1,
+            start: HEADER,
+        }
+    }
+
     // Looks at a chunk of names, and goes on to the name after them. That there is one is the test of the callers' loops.
     pub(crate) fn next_chunk<L: Look>(&mut self, look: L, table: &mut [L::Value; CHUNK]) -> Chunk
         requires { self.old.name ≤ self.old.metadata.w.names }

@@ -97,7 +97,7 @@ pub(crate) fn count_replaced(metadata: Metadata, rows: &mut [PropertyRow])
     }
     let names = metadata.w.names as usize;
     let mut counts = [0; CHUNK];
-    let mut walk = NameWalk::new(metadata);
+    let mut walk = NameWalk::stored(metadata);
     while walk.name <= names {
         let chunk = walk.next_chunk(Replaced {}, &mut counts);
         recount_rows(&counts, chunk, rows);

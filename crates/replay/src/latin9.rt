@@ -28,7 +28,7 @@ pub fn import(fields: Fields<'_>) -> Result<(), Fault> {
     converted(fields, import_latin9)
 }
 
-// table first last, by the table that the two calls go by
+// table first last, by the table that the two calls go by. It has no lines where first is above last, past 255 too.
 pub fn table(mut fields: Fields<'_>) -> Result<(), Fault> {
     let first = fields.number()?;
     let last = fields.number()?;

@@ -114,14 +114,14 @@ impl<T: AsSlice<u32>> Display for Rows<'_, T> {
 // Lines of the table of ISO 8859-15, their ends as a line has them.
 #[derive(Clone, Copy)]
 pub struct Table {
-    pub first: u8,
+    pub first: usize,
     pub last: u8,
 }
 
 impl Display for Table {
     fn fmt<W: Write>(&self, f: &mut Formatter<W>) -> fmt::Result {
-        for byte in self.first..=self.last {
-            let code = code_point(byte);
+        for byte in self.first..=usize::from(self.last) {
+            let code = code_point(byte as u8);
             write!(f, "{byte:02x} {code:04x}\\n")?;
         }
         Ok(())

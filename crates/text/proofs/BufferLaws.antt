@@ -13,7 +13,7 @@ use lib.Seq.{length-take-le, take_all, take_at, drop_at, drop-length, set_at, dr
 use Rattle.text.specs.Buffer.{over, put, Puts, placed, placed_end, Places}
 use Rattle.text.proofs.TestLaws.{either}
 
-pub put_none : (d : List ℕ) (at : ℕ) → put d at [] ≡ d
+pub put_none : {A : Type 0} (d : List A) (at : ℕ) → put d at [] ≡ d
 unfolding put
 put_none d at = simp (append-nil, add-zero) (take-append-drop at d)
 
@@ -39,7 +39,7 @@ length_over new old h = omega (arith, length-append new (drop (length new) old),
 pub kept_over : (d front : List ℕ) (n : ℕ) → take n d ≡ front → length front ≡ n → d ≡ over front d
 kept_over d front n e l = sym (take-append-drop n d) ∙ rw (l, e)
 
-module _ (d : List ℕ) (at : ℕ) (w : List ℕ) (room : at + length w ≤ length d) where
+module _ {A : Type 0} (d : List A) (at : ℕ) (w : List A) (room : at + length w ≤ length d) where
   head_length : length (take at d ++ w) ≡ at + length w
   head_length =
       let a : at ≤ length d = omega arith in
@@ -58,16 +58,16 @@ module _ (d : List ℕ) (at : ℕ) (w : List ℕ) (room : at + length w ≤ leng
   drop_put = drop_at (take at d ++ w) _ _ head_length
 
 -- one element more
-pub put_one : (d : List ℕ) (at : ℕ) (w : List ℕ) (x : ℕ) → at + length w < length d → set (put d at w) (at + length w) x ≡ put d at (w ++ x ∷ [])
+pub put_one : {A : Type 0} (d : List A) (at : ℕ) (w : List A) (x : A) → at + length w < length d → set (put d at w) (at + length w) x ≡ put d at (w ++ x ∷ [])
 unfolding put
-put_one d at w x h =
-    let p : List ℕ = take at d ++ w in
-    let rest : List ℕ = drop (suc (at + length w)) d in
+put_one {A} d at w x h =
+    let p : List A = take at d ++ w in
+    let rest : List A = drop (suc (at + length w)) d in
     let n : suc (at + length w) ≡ at + length (w ++ x ∷ []) = omega (arith, length-append w (x ∷ [])) in
-    ap (λ (r : List ℕ). set (p ++ r) (at + length w) x) (drop-cons d (at + length w) 0 h)
+    ap (λ (r : List A). set (p ++ r) (at + length w) x) (drop-cons d (at + length w) x h)
     ∙ set_at p _ rest x (at + length w) (head_length d at w (omega arith))
     ∙ sym (append_snoc p x rest)
-    ∙ ap (λ (r : List ℕ). r ++ rest) (append_assoc (take at d) w (x ∷ []))
+    ∙ ap (λ (r : List A). r ++ rest) (append_assoc (take at d) w (x ∷ []))
     ∙ ap (λ (k : ℕ). take at d ++ (w ++ x ∷ []) ++ drop k d) n
 
 -- another list after it

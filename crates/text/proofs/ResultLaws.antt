@@ -86,6 +86,14 @@ module _ {S : Type 0} (f : ℕ → S → Result S) (i e : ℕ) (s : S) where
       let k : e - i ≡ suc (e - suc i) = omega arith in
       rw (k, y)
 
+  -- a fold that is ok: its first step was
+  pub fold_range_passed : {u : S} → i < e → fold_range f i e s ≡ ok u → (s' : S) × ((f i s ≡ ok s') × (fold_range f (i + 1) e s' ≡ ok u))
+  unfolding fold_range fold_count
+  fold_range_passed {u} h y =
+      let k : e - i ≡ suc (e - suc i) = omega arith in
+      let y' : (f i s >>= fold_count f (suc i) (e - suc i)) ≡ ok u = rw k at y in
+      rw add-one (bind_passed (f i s) (fold_count f (suc i) (e - suc i)) y')
+
 -- each step of a fold that passed
 fold_count_step : {S : Type 0} (f : ℕ → S → Result S) (i k : ℕ) (s : S) {u : S} → fold_count f i k s ≡ ok u → (j : ℕ) → i ≤ j → j < i + k → (a : S) × ((b : S) × (f j a ≡ ok b))
 unfolding fold_count
@@ -132,6 +140,11 @@ module _ (n : ℕ) (holds : ℕ → Bool) (from e : ℕ) where
 
     pub checks_last : e ≤ i → check_each n holds from e ≡ ok tt
     checks_last h = c.rest ∙ check_each_done n holds i e h
+
+-- checks before a value: what fails is one of them
+pub seq_failed : {A B : Type 0} (m : Result A) (b : B) {n : Failure} → (m >> ok b) ≡ error n → m ≡ error n
+seq_failed (ok a) b e = clash cc
+seq_failed (error f) b e = cc
 
 -- a failure passes by what is done with the value
 pub bind_failed : {A B C : Type 0} (m : Result A) (f : A → Result B) (g : A → B → Result C) {e : Failure} → (m >>= f) ≡ error e → (m >>= λ a. f a >>= g a) ≡ error e

@@ -91,7 +91,14 @@ pub utf16s_cons : (v : ℕ) (vs : List ℕ) → utf16s (v ∷ vs) ≡ utf16 v ++
 unfolding flat_map
 utf16s_cons v vs = refl
 
--- ---- code units are code units
+-- ---- bytes are bytes, and code units code units
+
+utf8_below : (v : ℕ) → IsScalar v → Below 256 (utf8 v)
+utf8_below v sc =
+    let t = sc.top in
+    by_size v (λ h. rw (utf8_1 v h) (omega arith, tt)) (λ l h. rw (utf8_2 v l h) (omega arith, (omega arith, tt)))
+    (λ l h. rw (utf8_3 v l h) (omega arith, (omega arith, (omega arith, tt))))
+    (λ l. rw (utf8_4 v l) (omega arith, (omega arith, (omega arith, (omega arith, tt)))))
 
 utf16_below : (v : ℕ) → IsScalar v → Below 65536 (utf16 v)
 utf16_below v sc =
@@ -107,6 +114,9 @@ flat_below : (b : ℕ) (f : ℕ → List ℕ) → ((v : ℕ) → IsScalar v → 
 unfolding flat_map
 flat_below b f k [] h = tt
 flat_below b f k (v ∷ vs) h = below_append b (f v) (flat_map f vs) (k v h.0) (flat_below b f k vs h.1)
+
+pub utf8s_below : (vs : List ℕ) → Scalars vs → Below 256 (utf8s vs)
+utf8s_below = flat_below 256 utf8 utf8_below
 
 pub utf16s_below : (vs : List ℕ) → Scalars vs → Below 65536 (utf16s vs)
 utf16s_below = flat_below 65536 utf16 utf16_below

@@ -12,7 +12,7 @@ use lib.Dec.{ltb}
 use Rattle.text.specs.Unicode.{Below, is_high_surrogate, is_low_surrogate, is_surrogate, utf8s, utf16, utf16s}
 use Rattle.text.specs.Utf8.{scalars8, units_of}
 use Rattle.text.specs.Utf16.{pair_value, scalars16, text_of}
-use Rattle.text.proofs.ScalarLaws.{IsScalar, Scalars, gap_below, gap_above, gap_cases, utf16_1, utf16_2, utf16s_below}
+use Rattle.text.proofs.ScalarLaws.{IsScalar, Scalars, gap_below, gap_above, gap_cases, utf16_1, utf16_2, utf8s_below, utf16s_below}
 use Rattle.text.proofs.TestLaws.{either, within_yes, within_under, within_over, within_is, within_not}
 use Rattle.text.proofs.Utf8Laws.{map_is, not_some, scalars8_utf8s, spelled}
 
@@ -157,3 +157,9 @@ pub units_below : (t us : List ℕ) → units_of t ≡ Some us → Below 65536 u
 units_below t us e =
     let o = map_is utf16s (scalars8 t) e in
     rw o.1.1 (utf16s_below o.0 (spelled t o.1.0).scalars)
+
+-- and the bytes of units are bytes
+pub text_below : (us t : List ℕ) → Below 65536 us → text_of us ≡ Some t → Below 256 t
+text_below us t b e =
+    let o = map_is utf8s (scalars16 us) e in
+    rw o.1.1 (utf8s_below o.0 (spelled16 us b o.0 o.1.0).scalars)

@@ -9,7 +9,9 @@ pub fn copy_into<T: Copy>(items: &[T], out: &mut [T], at: usize) -> usize
     if out.len() < at || out.len() - at < items.len() {
         return at;
     }
-    let end = at + items.len();
-    out[at..end].copy_from_slice(items);
-    end
+    // Item by item: copy_from_slice is a call of memmove, which the archive for C would ask of its programs.
+    for (i, item) in items.iter().enumerate() {
+        out[at + i] = *item;
+    }
+    at + items.len()
 }

@@ -18,6 +18,15 @@ length_packed (a ∷ b ∷ []) = refl
 length_packed (a ∷ b ∷ c ∷ []) = refl
 length_packed (a ∷ b ∷ c ∷ d ∷ us) = omega (arith, length_packed us)
 
+-- a packed word is a word
+pub packed_below : (us : List ℕ) → Below 65536 us → Below (2 ^ 64) (packed us)
+unfolding packed value
+packed_below [] h = tt
+packed_below (a ∷ []) h = (omega arith, tt)
+packed_below (a ∷ b ∷ []) h = (omega arith, tt)
+packed_below (a ∷ b ∷ c ∷ []) h = (omega arith, tt)
+packed_below (a ∷ b ∷ c ∷ d ∷ us) h = (omega arith, packed_below us h.1.1.1.1)
+
 -- ---- the words, by the units
 
 pub packed_0 : packed [] ≡ []

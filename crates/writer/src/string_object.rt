@@ -11,6 +11,7 @@ ghost use Rattle.writer.specs.Stages.Payload.{array_in, PayloadFits};
 use crate::checks::{Strings, is_shape};
 use crate::file_wrapper::ObjectCount;
 use crate::packing::put_strings;
+use text::copy::copy_into;
 use text::error::MatError;
 
 // The first word of opaque metadata.
@@ -85,7 +86,7 @@ fn put_payload(dims: &[u64], text: &[u8], spans: &[u64], words: &mut [u64])
     words[0] = MATLAB_STRING_SAVEOBJ_VERSION;
     words[1] = dims.len() as u64;
     let start = 2 + dims.len();
-    words[2..start].copy_from_slice(dims);
+    copy_into(dims, words, 2);
     put_strings(Strings { text, spans }, &mut words[start..]);
 }
 

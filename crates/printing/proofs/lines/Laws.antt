@@ -20,6 +20,7 @@ use Rattle.text.proofs.BufferLaws.{put_none, put_front, places_fits, places_fron
 use Rattle.text.proofs.ByteLaws.{stores}
 use Rattle.text.proofs.TestLaws.{clash, cond_both}
 use Rattle.writer.proofs.FileWrapperLaws.{puts_then, puts_length, mid_put}
+use Rattle.reader.specs.Opening.{empty_wrapper}
 use Rattle.printing.specs.Lines.{is_plain, hex_digit, escape, escaped, digits, decimal, CountsDigits, numbered, line_text, WritesPart}
 use Rattle.std.specs.Result.{result_unwrap_or}
 use Rattle.text.specs.Replies.{outcome}
@@ -322,3 +323,8 @@ part_most (part.Heap n) = omega (arith, numbered_most (0x20 ∷ 0x68 ∷ 0x65 �
 part_most (part.Inline n) = omega (arith, numbered_most (0x20 ∷ 0x69 ∷ 0x6E ∷ 0x6C ∷ 0x69 ∷ 0x6E ∷ 0x65 ∷ 0x20 ∷ []) n (0x0A ∷ []))
 part_most part.Name = omega arith
 part_most part.End = omega arith
+
+-- "The listing program prints the line `names 0`": it has no object to go on with
+pub empty_line : line_text (part.Names empty_wrapper.names) ≡ 0x6E ∷ 0x61 ∷ 0x6D ∷ 0x65 ∷ 0x73 ∷ 0x20 ∷ 0x30 ∷ 0x0A ∷ []
+unfolding decimal digits
+empty_line = refl

@@ -154,9 +154,9 @@ module _ {m : Metadata} {x start : ℕ} (n : ToNames m x (x + 1) start) where
     look_piece z r k =
         let l : get_or m.w.offsets 0 0 ≤ length m.blob.now = omega (arith, m.opens) in
         record {
-          is = piece_equal m.blob.now (get_or m.w.offsets 0 0) wanted z (has_piece n) l n.heap r k;
+          is = piece_equal m.blob.now (get_or m.w.offsets 0 0) wanted z (has_piece n) n.heap r k;
           none = λ e. e;
-          heap = stand_next n.heap z (has_piece n) l r k.piece;
+          heap = stand_next n.heap z (has_piece n) r l k.piece;
         }
 
 -- ---- a chunk of names

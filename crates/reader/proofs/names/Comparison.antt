@@ -96,6 +96,6 @@ module _ (b : List ℕ) (e : ℕ) {x : ℕ} (wanted : List ℕ) where
   unfolding name_bytes
   unnamed_equal z = simp (eq-eqb x 0 z) (same_empty wanted)
 
-  pub piece_equal : (x ≡ 0 → ⊥) → x ≤ length (heap_pieces b e) → e ≤ length b → {start : ℕ} → PieceBegins b e x start → {rest : List ℕ} → rest ≡ slice start e b
+  pub piece_equal : (x ≡ 0 → ⊥) → x ≤ length (heap_pieces b e) → {start : ℕ} → PieceBegins b e x start → {rest : List ℕ} → rest ≡ slice start e b
       → {c : Compared} → ComparesPiece rest wanted c → c.equal ≡ same (name_bytes b e x) wanted
-  piece_equal some h l s r k = k.is ∙ ap (λ (xs : List ℕ). same xs wanted) (stand_name s some h l r k.piece)
+  piece_equal some h s r k = k.is ∙ ap (λ (xs : List ℕ). same xs wanted) (stand_name s some h r)

@@ -13,7 +13,7 @@ use Rattle.std.proofs.lemmas.List.Sums.{count_by-le-length, sum_by-append}
 use Rattle.text.specs.Utf8.{before_zero}
 use Rattle.text.proofs.utf8.Terminated.{before_none, before_zero_lem, before_more}
 use Rattle.text.proofs.TestLaws.{either}
-use Rattle.reader.specs.Names.{onto, pieces, heap_of, name_bytes, length_with_zeros}
+use Rattle.reader.specs.Names.{onto, pieces, heap_of, name_bytes, name_start, length_with_zeros}
 use Rattle.reader.specs.Stages.Names.{pieces_from, heap_pieces, zeros, Skips, HasPiece, Running, FirstPiece, PieceBegins, HasName}
 
 length_onto : (x : ℕ) (ps : List (List ℕ)) → 1 ≤ length ps → length (onto x ps) ≡ length ps
@@ -226,32 +226,36 @@ module _ {b : List ℕ} {e : ℕ} where
           either (leb start e) (λ t. leb-true start e t)
           (λ t. absurd (omega (arith, ap length (simp t at s.rest), length-drop (x - 1) (heap_pieces b e))))
 
-      module _ (l : e ≤ length b) {rest : List ℕ} (r : rest ≡ slice start e b) {n : ℕ} (f : FirstPiece rest n) where
-        here : before_zero rest ∷ pieces_from b e (start + n + 1) ≡ drop (x - 1) (heap_pieces b e)
-        unfolding pieces_from
-        here =
-            let w : length rest ≡ e - start = ap length r ∙ length-slice start e b l in
-            let j : start + (n + 1) ≡ start + n + 1 = omega arith in
-            let d : drop (n + 1) rest ≡ slice (start + n + 1) e b =
-            ap (drop (n + 1)) r ∙ drop-drop (n + 1) start (take e b) ∙ ap (λ (k : ℕ). drop k (take e b)) j in
-            let all : pieces rest ≡ drop (x - 1) (heap_pieces b e) = ap pieces r ∙ sym (from_here start b e stand_inside) ∙ s.rest in
-            either (leb (n + 1) (length rest))
-            (λ t. simp (le-leb (start + n + 1) e (omega (arith, w, leb-true (n + 1) (length rest) t)))
-            (ap (λ (xs : List ℕ). before_zero rest ∷ pieces xs) (sym d) ∙ sym (simp t at (pieces_first f)) ∙ all))
-            (λ t. simp (lt-leb (start + n + 1) e (omega (arith, w, leb-false (n + 1) (length rest) t))) (sym (simp t at (pieces_first f)) ∙ all))
+      module _ {rest : List ℕ} (r : rest ≡ slice start e b) where
+        from_start : pieces rest ≡ drop (x - 1) (heap_pieces b e)
+        from_start = ap pieces r ∙ sym (from_here start b e stand_inside) ∙ s.rest
 
         pub stand_name : before_zero rest ≡ name_bytes b e x
         stand_name =
             let z : x - 1 + 0 ≡ x - 1 = omega arith in
-            ap (λ (ps : List (List ℕ)). get_or ps 0 []) here
+            sym (ap (λ (ps : List (List ℕ)). get_or ps 0 []) (first_pieces rest))
+            ∙ ap (λ (ps : List (List ℕ)). get_or ps 0 []) from_start
             ∙ get_or-drop (x - 1) (heap_pieces b e) 0 []
             ∙ ap (λ (k : ℕ). get_or (heap_pieces b e) k []) z
             ∙ sym (name_is b some (heap_begins b (omega arith)))
 
-        pub stand_next : PieceBegins b e (x + 1) (start + n + 1)
-        stand_next =
-            let z : x - 1 + 1 ≡ x + 1 - 1 = omega arith in
-            record { rest = rw z at (ap (drop 1) here ∙ drop-drop 1 (x - 1) (heap_pieces b e)) }
+        module _ (l : e ≤ length b) {n : ℕ} (f : FirstPiece rest n) where
+          here : before_zero rest ∷ pieces_from b e (start + n + 1) ≡ drop (x - 1) (heap_pieces b e)
+          unfolding pieces_from
+          here =
+              let w : length rest ≡ e - start = ap length r ∙ length-slice start e b l in
+              let j : start + (n + 1) ≡ start + n + 1 = omega arith in
+              let d : drop (n + 1) rest ≡ slice (start + n + 1) e b =
+              ap (drop (n + 1)) r ∙ drop-drop (n + 1) start (take e b) ∙ ap (λ (k : ℕ). drop k (take e b)) j in
+              either (leb (n + 1) (length rest))
+              (λ t. simp (le-leb (start + n + 1) e (omega (arith, w, leb-true (n + 1) (length rest) t)))
+              (ap (λ (xs : List ℕ). before_zero rest ∷ pieces xs) (sym d) ∙ sym (simp t at (pieces_first f)) ∙ from_start))
+              (λ t. simp (lt-leb (start + n + 1) e (omega (arith, w, leb-false (n + 1) (length rest) t))) (sym (simp t at (pieces_first f)) ∙ from_start))
+
+          pub stand_next : PieceBegins b e (x + 1) (start + n + 1)
+          stand_next =
+              let z : x - 1 + 1 ≡ x + 1 - 1 = omega arith in
+              record { rest = rw z at (ap (drop 1) here ∙ drop-drop 1 (x - 1) (heap_pieces b e)) }
 
 -- ---- a name
 
@@ -342,6 +346,14 @@ module _ (heap rest : List ℕ) (index : ℕ) (s : pieces rest ≡ drop (index -
       ∙ ap (λ (qs : List (List ℕ)). get_or qs 0 []) s
       ∙ get_or-drop (index - 1) (pieces heap) 0 []
       ∙ ap (λ (k : ℕ). get_or (pieces heap) k []) z
+
+-- a piece begins at one place only
+pub piece_starts : {b : List ℕ} {e index i : ℕ} → e ≤ length b → i ≤ e → PieceBegins b e index i → i ≡ name_start b e index
+piece_starts {b} {e} {index} {i} l inside s =
+    let all : pieces (slice i e b) ≡ drop (index - 1) (heap_pieces b e) = sym (from_here i b e inside) ∙ s.rest in
+    let h : 40 ≤ e = heap_begins b (omega (arith, ap length all, pieces_some (slice i e b), length-drop (index - 1) (heap_pieces b e))) in
+    let rest = starts_place (heap_of b e) (slice i e b) index (all ∙ ap (drop (index - 1)) (from_here 40 b e h)) in
+    omega (arith, rest, length-slice i e b l, length-slice 40 e b l)
 
 -- the bytes of a stored name, by the heap from its piece on
 pub name_found : (b : List ℕ) (e index : ℕ) → (index ≡ 0 → ⊥) → {rest : List ℕ} → pieces rest ≡ drop (index - 1) (pieces (heap_of b e)) → {n : ℕ} → FirstPiece rest n

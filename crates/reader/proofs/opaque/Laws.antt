@@ -1,16 +1,17 @@
--- Checks 17 to 21: opaque metadata that passed them.
+-- Checks 17 to 21: opaque metadata that passed them, and reading what is written for an id.
 -- Assumes nothing.
 use Prim.Native.Nat.{ℕ, ◌+◌, ◌≤◌}
-use mathlib.Core.Path.{◌≡◌, sym}
+use mathlib.Core.Path.{◌≡◌, refl, sym}
 use mathlib.Core.List.{List}
 use native.Mathlib.Omega.{arith}
 use borrow.Author.Tests.{leb-true, eqb-true}
 use lib.Dec.{leb, eqb}
 use lib.ListN.{length, get_or, take, drop}
-use Rattle.text.specs.Product.{product_of}
+use Rattle.text.specs.Product.{product_of, product_from}
 use Rattle.text.specs.Result.{ok}
 use Rattle.text.proofs.convert.Products.{product_passed}
 use Rattle.text.proofs.ResultLaws.{check_passed}
+use Rattle.writer.specs.Metadata.{object_metadata}
 use Rattle.reader.specs.Opaque.{opaque_metadata}
 use Rattle.reader.specs.declared.opaque.OpaqueMetadata.{OpaqueMetadata}
 
@@ -34,3 +35,14 @@ opaque_passed w {m} e =
     let z : ◌≡◌ {A = OpaqueMetadata} (record { first_id = 2 + get_or w 1 0; ids = n; class_id = get_or w (2 + get_or w 1 0 + n) 0 }) m = cc in
     rw (sym z)
     (record { there = omega (arith, eqb-true (length w) (2 + get_or w 1 0 + n + 1) size.0); few = leb-true (length w) 65536 most.0 })
+
+-- ---- what is written for an id
+
+-- one id, at position 4, of class 1
+pub written_reads : (id : ℕ) → opaque_metadata (object_metadata id) ≡ ok (record { first_id = 4; ids = 1; class_id = 1 })
+unfolding opaque_metadata product_of product_from
+written_reads id = refl
+
+-- and it is that id
+pub written_id : (id : ℕ) → get_or (object_metadata id) 4 0 ≡ id
+written_id id = refl

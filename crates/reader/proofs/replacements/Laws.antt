@@ -5,7 +5,7 @@ use mathlib.Core.Bool.{Bool, true, false, cond, not}
 use mathlib.Core.List.{List, [], ◌∷◌, map}
 use Prim.Native.Nat.{ℕ, ◌+◌, ◌≤◌, ◌<◌}
 use native.Mathlib.Omega.{arith}
-use borrow.Author.Tests.{ne_eqb, not-false, lt-ltb, le-ltb, le-leb, lt-leb, leb-true, ltb-true, ltb-false}
+use borrow.Author.Tests.{ne_eqb, not-false, lt-ltb, le-leb, lt-leb, leb-true, ltb-true, ltb-false}
 use lib.Dec.{eqb, leb, ltb}
 use lib.ListN.{length, get_or, take, set, length-map}
 use lib.Seq.{slice}
@@ -99,9 +99,9 @@ module _ {m : Metadata} {x start : ℕ} (n : ToNames m x (x + 1) start) where
     counted_name r {e} f {s} i =
         let l : get_or m.w.offsets 0 0 ≤ length m.blob.now = omega (arith, m.opens) in
         record {
-          is = i.replaced ∙ ap told (sym f.is ∙ stand_name n.heap some (has_piece n) l r f);
+          is = i.replaced ∙ ap told (sym f.is ∙ stand_name n.heap some (has_piece n) r);
           none = λ z. omega (arith, ltb-false 0 s.replaced z);
-          heap = stand_next n.heap some (has_piece n) l r f;
+          heap = stand_next n.heap some (has_piece n) r l f;
         }
 
 -- ---- the rows, one after another
@@ -176,12 +176,16 @@ module _ {m : Metadata} {rows₀ : List PropertyRow} where
   pub rows_sound : {r : Bool} → r ≡ true → SoundNames m r → CountsRows m rows₀ rows₀
   rows_sound g s = record { is = λ ts c q. q ∙ rows_same m.w no_count (replaced_of m.blob.now m.w) (λ i h. sym (subst (SoundNames m) g s i h)) ts c }
 
-  pub counting_start : {k : NameWalk} → k.metadata ≡ m → k.name ≡ 0 → Counting m rows₀ rows₀ k
+  -- no name has been looked at, or the empty one alone
+  pub counting_start : {k : NameWalk} → k.metadata ≡ m → k.name ≤ 1 → Counting m rows₀ rows₀ k
   unfolding count_below
-  counting_start {k} e z = record {
-    same = e;
-    is = λ ts q. q ∙ rows_all no_count (count_below m k.name) (λ i. simp (le-ltb i k.name (omega arith))) ts;
-  }
+  counting_start {k} e z = record { same = e; is = λ ts q. q ∙ rows_all no_count (count_below m k.name) none ts }
+    where
+      none : (i : ℕ) → no_count i ≡ count_below m k.name i
+      none i =
+          either (ltb i k.name)
+          (λ t. let y : i ≡ 0 = omega (arith, ltb-true i k.name t) in simp t (rw y (sym (empty_sound m.blob.now (get_or m.w.offsets 0 0)))))
+          (λ t. simp t)
 
   module _ {rows : List PropertyRow} {k : NameWalk} (c : Counting m rows₀ rows k) where
     pub counting_turn : {k' : NameWalk} → k'.metadata ≡ k.metadata → {first e : ℕ} → first ≡ k.name → e ≡ k'.name

@@ -1,18 +1,19 @@
 -- The loop of `Strings::measure`, and the outcomes of `measure_payload`.
 -- Assumes nothing.
-use Prim.Native.Nat.{ℕ, zero, ◌+◌, ◌-◌, ◌/◌, ◌%◌, ◌^◌, ◌≤◌, ◌<◌}
+use Prim.Native.Nat.{ℕ, zero, suc, ◌+◌, ◌*◌, ◌-◌, ◌/◌, ◌%◌, ◌^◌, ◌≤◌, ◌<◌}
 use mathlib.Core.Path.{◌≡◌, refl, sym, ap, ◌∙◌}
 use mathlib.Core.Bool.{Bool, true, false}
 use mathlib.Core.List.{List, flat_map}
 use Rattle.std.specs.Int.{div_ceil}
 use Rattle.std.specs.Prelude.{Some, None}
+use native.Mathlib.Numerals.{add-one}
 use native.Mathlib.Omega.{arith}
 use borrow.Author.Tests.{le-leb, lt-leb, eq-eqb, ne_eqb}
 use lib.Dec.{leb}
 use lib.ListN.{length}
 use Rattle.text.specs.Result.{Result, ok, error, map_result, check, fold_range, ◌>>◌, ◌>>=◌}
 use Rattle.text.specs.declared.error.Failure.{Failure}
-use Rattle.text.proofs.ResultLaws.{fold_range_done, fold_range_yes, fold_range_no}
+use Rattle.text.proofs.ResultLaws.{seq_passed, fold_range_done, fold_range_yes, fold_range_no, fold_range_passed}
 use Rattle.writer.specs.Array.{all_units, payload, is_shape, check_shape, array_of}
 use Rattle.writer.specs.Spans.{string_at, strings_from, strings_in, check_string, check_strings}
 use Rattle.writer.specs.Stages.Payload.{MeasuresString, measured_strings, array_in}
@@ -76,6 +77,30 @@ module _ (text spans : List ℕ) (n : ℕ) where
       let z : n - i ≡ zero = omega arith in
       let k : units + 0 ≡ units = omega arith in
       sym (rw (fold_range_done (check_string text spans) i n end h, z) at m.whole ∙ ap ok k)
+
+-- the units of all strings are at most the text's bytes
+units_from : (text spans : List ℕ) (k i n end : ℕ) {last : ℕ} → i + k ≡ n → fold_range (check_string text spans) i n end ≡ ok last → end ≤ length text
+    → end + length (all_units (strings_from text spans i k)) ≤ length text
+unfolding strings_from flat_map
+units_from text spans zero i n end c e h = omega arith
+units_from text spans (suc k) i n end c e h =
+    let p = fold_range_passed (check_string text spans) i n end (omega arith) e in
+    let s = string_passed text spans i end p.1.0 in
+    let u = units_most s in
+    let rest = units_from text spans k (suc i) n p.0 (omega arith) (rw (add-one i) at p.1.1) (omega arith) in
+    omega (arith, rest, units_cons (string_at text spans i) (strings_from text spans (suc i) k))
+
+units_all : (text spans : List ℕ) (n : ℕ) {last : ℕ} → fold_range (check_string text spans) 0 n 0 ≡ ok last → length (all_units (strings_from text spans 0 n)) ≤ length text
+units_all text spans n e = omega (arith, units_from text spans n 0 n 0 (omega arith) e (omega arith))
+
+-- so that three more fit 64 bits
+pub units_fit : (text spans : List ℕ) (n : ℕ) {u : ℕ} → length text * 1 < 2 ^ 63 → ok u ≡ measured_strings text spans n → u + 3 < 2 ^ 64
+unfolding measured_strings
+units_fit text spans n {u} f e =
+    let p = seq_passed (fold_range (check_string text spans) 0 n 0) (ok (length (all_units (strings_from text spans 0 n)))) (sym e) in
+    let k = p.1.1 in
+    let z : length (all_units (strings_from text spans 0 n)) ≡ u = cc in
+    omega (arith, units_all text spans n p.1.0)
 
 -- ---- the outcomes of `measure_payload`
 

@@ -8,18 +8,17 @@ use native.Mathlib.Omega.{arith}
 use borrow.Author.Tests.{le-leb, lt-leb}
 use borrow.Rule.Slice.PartMut.{put_mid, mid_of}
 use lib.ListN.{length, set, drop, length-set, length-take, length-drop}
-use Rattle.text.specs.Buffer.{put}
+use Rattle.text.specs.Buffer.{put, Places}
 use Rattle.text.specs.Result.{ok, error}
 use Rattle.text.specs.declared.error.MatError.TheVariants.{OutputTooShort}
 use Rattle.text.specs.declared.error.Failure.{Failure}
-use Rattle.text.proofs.BufferLaws.{put_front, put_more, length_put, part_put}
+use Rattle.text.proofs.BufferLaws.{put_front, put_more, length_put, part_put, places_fits}
 use Rattle.text.proofs.ByteLaws.{stores}
 use Rattle.text.proofs.ReplyLaws.{writes, told_value, told_error}
 use Rattle.writer.specs.Array.{Array, string_words, payload, array_of, encode_payload}
 use Rattle.writer.specs.Replies.{measured_payload, EncodesPayload}
 use Rattle.writer.specs.Spans.{strings_in}
 use Rattle.writer.specs.Stages.Payload.{array_in, PayloadFits, StringsFit}
-use Rattle.writer.proofs.FileWrapperLaws.{mid_put}
 use Rattle.writer.proofs.ArrayLaws.{length_payload, array_is, strings_inside, strings_well_formed}
 
 -- ---- writing: version and number of dimensions, dimensions, strings
@@ -31,12 +30,11 @@ module _ {dims text spans : List ℕ} (d : List ℕ) (f : PayloadFits dims text 
   heads : set (set d 0 1) 1 (length dims) ≡ put d 0 (1 ∷ length dims ∷ [])
   heads = stores (1 ∷ length dims ∷ []) d 0 (omega (arith, size))
 
-  pub dims_put : {w : List ℕ} → w ≡ dims → put_mid 2 (2 + length dims - 2) (set (set d 0 1) 1 (length dims)) w ≡ put d 0 (1 ∷ length dims ∷ dims)
-  dims_put e =
-      rw e
-      (mid_put (set (set d 0 1) 1 (length dims)) 2 (2 + length dims - 2) dims (omega arith) (simp length-set (omega (arith, size)))
+  pub dims_put : {n : ℕ} {d' : List ℕ} → Places (set (set d 0 1) 1 (length dims)) 2 dims n d' → d' ≡ put d 0 (1 ∷ length dims ∷ dims)
+  dims_put p =
+      (places_fits (set (set d 0 1) 1 (length dims)) 2 dims (simp length-set (omega (arith, size))) p).buffer
       ∙ ap (λ (x : List ℕ). put x 2 dims) heads
-      ∙ put_more d 0 (1 ∷ length dims ∷ []) dims 2 refl (omega (arith, size)))
+      ∙ put_more d 0 (1 ∷ length dims ∷ []) dims 2 refl (omega (arith, size))
 
   module _ {d' : List ℕ} (e : d' ≡ put d 0 (1 ∷ length dims ∷ dims)) where
     same_length : length d' ≡ length d

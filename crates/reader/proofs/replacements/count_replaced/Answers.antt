@@ -1,6 +1,7 @@
 -- `reader::replacements::count_replaced` meets its contract.
 -- Assumes nothing.
 use Rattle.reader.proofs.replacements.Laws.{rows_sound, counting_start, counting_turn, counting_last}
+use native.Mathlib.Omega.{arith}
 use borrow.Author.Rules.{rules}
 use Rattle.reader.proofs.replacements.count_replaced.Goals as goal
 
@@ -8,7 +9,7 @@ pub returns-then-is_sound : goal.returns-then-is_sound
 returns-then-is_sound c = search (rows_sound, rules)
 
 pub loop-walk-init : goal.loop-walk-init
-loop-walk-init c = counting_start c.new-walk.ensures.of c.new-walk.ensures.first
+loop-walk-init c = counting_start c.stored-walk.ensures.of (omega (arith, c.stored-walk.ensures.first))
 
 pub loop-walk-preserved : goal.loop-walk-preserved
 loop-walk-preserved c =

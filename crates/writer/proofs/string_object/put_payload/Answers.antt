@@ -10,9 +10,6 @@ bounds-words-0 c = let h = size _ c.requires in search rules
 pub bounds-words-1 : goal.bounds-words-1
 bounds-words-1 c = let h = size _ c.requires in search rules
 
-pub slice_bounds-copy_from_slice-end : goal.slice_bounds-copy_from_slice-end
-slice_bounds-copy_from_slice-end c = let h = size _ c.requires in search rules
-
 pub slice_bounds-put_strings-count : goal.slice_bounds-put_strings-count
 slice_bounds-put_strings-count c = let h = size _ c.requires in search rules
 
@@ -20,7 +17,7 @@ pub slice_bounds-put_strings-start : goal.slice_bounds-put_strings-start
 slice_bounds-put_strings-start c = let h = size _ c.requires in search rules
 
 pub put_strings-requires : goal.put_strings-requires
-put_strings-requires c = strings_fit _ c.requires (dims_put _ c.requires c.copy_from_slice.ensures.after)
+put_strings-requires c = strings_fit _ c.requires (dims_put _ c.requires c.copy_into.ensures)
 
 pub returns : goal.returns
-returns c = payload_put _ c.requires (dims_put _ c.requires c.copy_from_slice.ensures.after) c.put_strings.ensures
+returns c = payload_put _ c.requires (dims_put _ c.requires c.copy_into.ensures) c.put_strings.ensures

@@ -10,4 +10,4 @@ returns-then-self-ge-ROOM-clause-place g c = simp (le-leb _ _ c.if-self-ge-ROOM.
 
 pub returns-clause-place : goal.returns-clause-place
 unfolding start_of
-returns-clause-place g c = simp (lt-leb _ _ c.if-self-ge-ROOM.false) c.flush.ensures
+returns-clause-place g c = simp (lt-leb _ _ c.if-self-ge-ROOM.false) c.flush.ensures.used
